@@ -1,0 +1,5 @@
+pub mod Filling
+pub mod ListLaws
+pub mod Permutations
+pub mod Ranks
+pub mod Rows

@@ -1,0 +1,4 @@
+pub mod Conditions
+pub mod Lists
+pub mod Orders
+pub mod Refusals
