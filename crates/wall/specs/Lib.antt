@@ -1,0 +1,4 @@
+pub mod Acts
+pub mod Plans
+pub mod Rules
+pub mod Theorems
