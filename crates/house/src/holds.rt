@@ -51,7 +51,8 @@ impl Holds {
     pub fn limit(&self) -> u16
         ensures { λ r. ⌜ r ≡ now (self .entry) .limit ⌝ }
     {
-        self.limit
+        let limit = self.limit;
+        limit
     }
 
     /// Sets the holds of a card in place of the figure that it had.

@@ -119,7 +119,8 @@ fn rules_together() -> Result<(), Fail> {
             Free::kind_letter(),
             Holds::kind_letter(),
             Both::<Free, Holds>::kind_letter(),
+            Both::<Free, Holds>::LETTER,
         ],
-        [b'F', b'H', b'B'],
+        [b'F', b'H', b'B', b'B'],
     )
 }

@@ -33,7 +33,8 @@ impl Mask {
         ensures figure { λ r. ⌜ self ≡ record { bits = r } ⌝ }
         ensures members { λ r. ⌜ ((k : ℕ) → has self k ≡ (isOption k && bitOf r k)) ⌝ }
     {
-        self.bits
+        let Mask { bits } = self;
+        bits
     }
 
     /// The empty set.

@@ -4,7 +4,7 @@ use mathlib.Core.Bool.{Bool}
 use lib.Dec.{ltb}
 use Rattle.std.proofs.shelf.Tests.{lt-ltb, le-ltb}
 use Rattle.house.specs.Loads.{holdsOf}
-use Rattle.house.proofs.Strikes.{gathers, passes-by}
+use Rattle.masks.proofs.Gathering.{gathers, passes-by}
 use Rattle.house.proofs.holds.Holds.over.Needs as need
 use Rattle.house.proofs.holds.Holds.over.Needs.{then-load-self, else-load-self}
 

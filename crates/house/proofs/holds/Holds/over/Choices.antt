@@ -2,7 +2,7 @@
 use Prim.Native.Nat.{_+_}
 use lib.Dec.{ltb}
 use Rattle.house.specs.Loads.{holdsOf}
-use Rattle.house.proofs.Strikes.{Gathered}
+use Rattle.masks.proofs.Gathering.{Gathered}
 use Rattle.house.proofs.holds.Holds.over.Given as given
 
 abbrev pub Inv-loop-option : given.InvT-loop-option
