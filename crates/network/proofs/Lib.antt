@@ -1,0 +1,2 @@
+pub mod NetLaws
+pub mod WayLaws
