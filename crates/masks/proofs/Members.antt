@@ -1,7 +1,7 @@
 -- The laws of sets of options. Assumes nothing.
 use mathlib.Core.Path.{_≡_, refl, sym, ap, _∙_}
 use mathlib.Core.Bool.{Bool, true, false, cond, _&&_, _||_, not}
-use mathlib.Core.Logic.{_⊎_, ⊎-elim}
+use mathlib.Core.Logic.{_⊎_, inl, inr, ⊎-elim}
 use Prim.Native.Nat.{ℕ, zero, suc, _+_, _-_, _*_, _/_, _%_, _^_, _<_, _≤_}
 use native.Mathlib.Omega.{arith}
 use lib.Bits.{bitAnd, bitOr, bitXor}
@@ -120,3 +120,17 @@ empty-bits m h = (to, from)
     from f = ⊎-elim (λ (e : m .bits ≡ 0). eq-eqb (m .bits) 0 e)
         (λ (e : m .bits ≡ 0 → ⊥). let l = least-zeros m h e in absurd (both-ways (has m (trailingZeros 16 (m .bits))) (f _) (l .0)))
         (cases-eq (m .bits) 0)
+
+-- a set that is not empty has an option
+found-below : (test : ℕ → Bool) (n : ℕ) → ((k : ℕ) × (test k ≡ true)) ⊎ ((k : ℕ) → k < n → test k ≡ false)
+found-below test zero = inr (λ k l. absurd (omega arith))
+found-below test (suc n) = ⊎-elim (λ (f : (k : ℕ) × (test k ≡ true)). inl f)
+    (λ (f : (k : ℕ) → k < n → test k ≡ false). ⊎-elim (λ (t : test n ≡ true). inl (n, t))
+    (λ (t : test n ≡ false). inr (λ k l. ⊎-elim (λ (e : k ≡ n). ap test e ∙ t) (λ (e : k ≡ n → ⊥). f k (omega arith)) (cases-eq k n)))
+    (cases-bool (test n)))
+    (found-below test n)
+
+pub some-option : (m : Mask) → (((k : ℕ) → has m k ≡ false) → ⊥) → (k : ℕ) × (has m k ≡ true)
+some-option m some = ⊎-elim (λ (f : (k : ℕ) × (has m k ≡ true)). f)
+    (λ (f : (k : ℕ) → k < 16 → has m k ≡ false). absurd (some (λ k. ⊎-elim (λ (t : has m k ≡ true). absurd (both-ways (has m k) (f k (has-option m k t)) t)) (λ (t : has m k ≡ false). t) (cases-bool (has m k)))))
+    (found-below (has m) 16)

@@ -1,0 +1,2 @@
+pub mod CauseLaws
+pub mod Sweeping
