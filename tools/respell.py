@@ -60,7 +60,6 @@ NAMES = {
     'complete-all': 'complete_all',
     'complete-new': 'complete_new',
     'complete-old': 'complete_old',
-    'cond-true': 'cond_true',
     'conflict-of': 'conflict_of',
     'count-le': 'count_le',
     'count-one': 'count_one',

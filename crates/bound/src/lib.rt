@@ -1,4 +1,6 @@
 // Search 2: branch and bound. The open line with the fewest options left is next, and no row is looked for where the best row so far goes first.
+#![tactic(auto)]
+
 ghost use Rattle.std.specs.Prelude.{◌≡◌, ℕ, ◌<◌, ◌≤◌, get_or, slice_index_or};
 ghost use Rattle.bound.specs.Verdicts.{Visited, Kept, Improves, Beats};
 ghost use Rattle.choices.specs.Steps.{FitsWithin, Blames, Conflict, no_level, Unmoved};

@@ -1,4 +1,6 @@
 // Choices on the way of a search: what each leaves, and which choices are to blame where nothing is left.
+#![tactic(auto)]
+
 ghost use Rattle.choices.specs.Steps.{Chose};
 ghost use Rattle.forward.specs.Fits.{rules_of};
 

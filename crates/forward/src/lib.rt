@@ -1,4 +1,6 @@
 // The forward check: after a choice, pair rules and strikes shrink the options of each open line.
+#![tactic(auto)]
+
 ghost use Rattle.std.specs.Prelude.{◌≡◌, ℕ, ◌<◌, ◌≤◌, true, false, not, ◌&&◌, nat_lt, slice_index};
 ghost use Rattle.forward.specs.Causes.{is_choice, Checked, Swept, Dead, Blame, Settled};
 ghost use Rattle.forward.specs.Fits.{rules_of};

@@ -1,7 +1,7 @@
 -- Tables of the holds of cards. Assumes nothing.
 use Rattle.std.proofs.Common.{◌≡◌, ℕ, zero, suc, ◌<◌, ◌≤◌, Bool, true, false, cond, ◌&&◌, eqb, ◌⊎◌, List, [], ◌∷◌, length, get_or, set, replicate, sym, refl, ap, ◌∙◌, inl, inr, ⊎_elim, arith}
 use Rattle.std.proofs.lemmas.List.{get_or-set_same, get_or-set_other}
-use Rattle.std.proofs.lemmas.Bool.{cases_eq, eq-eqb, ne_eqb, cond_true, cond-false}
+use Rattle.std.proofs.lemmas.Bool.{cases_eq, eq-eqb, ne_eqb, cond-true, cond-false}
 use Rattle.house.specs.Loads.{holds_of, OneChanged}
 
 -- a line of a new table
@@ -24,7 +24,7 @@ none_few n m line option = let e = none_held n m line option in omega arith
 one_on_line : (figures : List ℕ) (option figure o : ℕ) → option < length figures → get_or (set figures option figure) o 0 ≡ cond (eqb o option) figure (get_or figures o 0)
 one_on_line figures option figure o l =
     ⊎_elim
-    (λ (e : o ≡ option). rw e (get_or-set_same figures option figure 0 l) ∙ sym (cond_true (eqb o option) figure (get_or figures o 0) (eq-eqb o option e)))
+    (λ (e : o ≡ option). rw e (get_or-set_same figures option figure 0 l) ∙ sym (cond-true (eqb o option) figure (get_or figures o 0) (eq-eqb o option e)))
     (λ (ne : o ≡ option → ⊥). get_or-set_other figures option o figure 0 ne ∙ sym (cond-false (eqb o option) figure (get_or figures o 0) (ne_eqb o option ne)))
     (cases_eq o option)
 

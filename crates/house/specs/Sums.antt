@@ -5,7 +5,7 @@ use Rattle.std.proofs.Common.{◌∙◌}
 use Rattle.std.proofs.Math.Logic.{⊎_elim}
 use Rattle.std.proofs.Math.Numerals.{add-one}
 use native.Mathlib.Omega.{arith}
-use Rattle.std.proofs.lemmas.Bool.{cases_eq, cases_Bool, and_parts, lt-ltb, le-ltb, ltb-true, leb-true, eqb-true, cond_true, cond-false}
+use Rattle.std.proofs.lemmas.Bool.{cases_eq, cases_Bool, and_parts, lt-ltb, le-ltb, ltb-true, leb-true, eqb-true, cond-true, cond-false}
 use Rattle.masks.specs.Members.{is_option}
 use Rattle.rows.specs.Rows.{is_open, is_partial, Agrees}
 use Rattle.house.specs.Questions.{is_wall, is_judged, is_open_line}
@@ -14,7 +14,7 @@ use Rattle.house.specs.Loads.{holds_of, share, load, is_within, is_over}
 module _ (counts : List (List ℕ)) where
   -- what a chosen line and an open line add
   share_option : (row : List ℕ) (k : ℕ) → slice_index row k < 16 → share counts row k ≡ holds_of counts k (slice_index row k)
-  share_option row k l = cond_true (is_option (slice_index row k)) (holds_of counts k (slice_index row k)) 0 (lt-ltb (slice_index row k) 16 l)
+  share_option row k l = cond-true (is_option (slice_index row k)) (holds_of counts k (slice_index row k)) 0 (lt-ltb (slice_index row k) 16 l)
 
   share_none : (row : List ℕ) (k : ℕ) → 16 ≤ slice_index row k → share counts row k ≡ 0
   share_none row k l = cond-false (is_option (slice_index row k)) (holds_of counts k (slice_index row k)) 0 (le-ltb (slice_index row k) 16 l)

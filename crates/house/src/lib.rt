@@ -1,4 +1,6 @@
 // House rules: which rows pass as a whole, and which options cannot be part of a passing row.
+#![tactic(auto)]
+
 ghost use Rattle.std.specs.Prelude.{◌≡◌, ℕ, Bool, true, false, List, ◌≢◌, slice_index};
 ghost use Rattle.house.specs.Questions.{is_judged, is_open_line};
 ghost use Rattle.masks.specs.Members.{has};

@@ -1,4 +1,6 @@
 // Search 1: lines by importance, options by ranking, and the first full row that passes is the answer.
+#![tactic(auto)]
+
 ghost use Rattle.std.specs.Prelude.{◌≡◌, ℕ, ◌<◌, ◌≤◌, get_or, slice_index_or};
 ghost use Rattle.choices.specs.Steps.{FitsWithin, no_level, Unmoved};
 ghost use Rattle.forward.specs.Fits.{rules_of, Left};

@@ -1,4 +1,6 @@
 // Sets of options, one bit for each of the options 0 to 15.
+#![tactic(auto)]
+
 ghost use Rattle.std.specs.Prelude.{◌≡◌, ℕ, ◌+◌, ◌^◌, ◌<◌, ◌≤◌, true, false, not, ◌&&◌, ◌||◌, if◌then◌else◌, Decides, ◌==◌, nat_lt};
 ghost use Rattle.masks.specs.Members.{is_option, bit_of, has, size, Least, SameMembers};
 

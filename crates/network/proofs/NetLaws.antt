@@ -2,7 +2,7 @@
 use Rattle.std.proofs.Common.{◌≡◌, ℕ, ◌+◌, ◌-◌, ◌<◌, ◌≤◌, Bool, true, false, cond, not, ◌&&◌, ◌||◌, eqb, ltb, leb, ◌⊎◌, List, [], length, get_or, take, set, replicate, Some, None, Option, sym, refl, ap, ◌∙◌, ap₂, inl, inr, ⊎_elim, arith}
 use Rattle.std.proofs.lemmas.List.{get_or-set_same, get_or-set_other, get_or-replicate, get_or-take, get_or_past, length-set, length-take}
 use Rattle.std.proofs.lemmas.Bool.Decides.{nat_tests}
-use Rattle.std.proofs.lemmas.Bool.{cases_eq, cases_lt, cases_Bool, eq-eqb, ne_eqb, eqb-true, lt-ltb, le-ltb, and_parts, and_left, and_right, and_from, cond_true, cond-false, ltb-true, le-leb}
+use Rattle.std.proofs.lemmas.Bool.{cases_eq, cases_lt, cases_Bool, eq-eqb, ne_eqb, eqb-true, lt-ltb, le-ltb, and_parts, and_left, and_right, and_from, cond-true, cond-false, ltb-true, le-leb}
 use Rattle.masks.specs.declared.Mask.{Mask}
 use Rattle.masks.specs.Members.{is_option, has}
 use Rattle.masks.proofs.Members.{has_option}
@@ -118,7 +118,7 @@ net_same rs us ways tables e net = record {
 at_front : (rules : List (Option PairRule)) (n i : ℕ) → get_or (take n rules) i None ≡ cond (ltb i n) (get_or rules i None) None
 at_front rules n i =
     ⊎_elim
-    (λ (l : i < n). get_or-take n rules i None l ∙ sym (cond_true (ltb i n) (get_or rules i None) None (lt-ltb i n l)))
+    (λ (l : i < n). get_or-take n rules i None l ∙ sym (cond-true (ltb i n) (get_or rules i None) None (lt-ltb i n l)))
     (λ (l : n ≤ i).
     get_or_past (take n rules) i None (let a = length-take n rules in omega arith) ∙ sym (cond-false (ltb i n) (get_or rules i None) None (le-ltb i n l)))
     (cases_lt i n)
@@ -130,7 +130,7 @@ net_skip rules k ways tables e net = net_same (take k rules) (take (k + 1) rules
     same : (i : ℕ) → get_or (take k rules) i None ≡ get_or (take (k + 1) rules) i None
     same i =
         at_front rules k i ∙ ⊎_elim
-        (λ (q : i ≡ k). cond-false (ltb i k) (get_or rules i None) None (le-ltb i k (omega arith)) ∙ sym (cond_true (ltb i (k + 1)) (get_or rules i None) None (lt-ltb i (k + 1) (omega arith)) ∙ rw q e))
+        (λ (q : i ≡ k). cond-false (ltb i k) (get_or rules i None) None (le-ltb i k (omega arith)) ∙ sym (cond-true (ltb i (k + 1)) (get_or rules i None) None (lt-ltb i (k + 1) (omega arith)) ∙ rw q e))
         (λ (q : i ≡ k → ⊥). ap (λ (b : Bool). cond b (get_or rules i None) None) (near i q))
         (cases_eq i k)
         ∙ sym (at_front rules (k + 1) i)
@@ -140,13 +140,13 @@ net_skip rules k ways tables e net = net_same (take k rules) (take (k + 1) rules
 
 -- a way there and a way back
 leads_by_there : (rs : List (Option PairRule)) (way line other : ℕ) → way < 24 → leads rs way line other ≡ is_from (get_or rs way None) line other
-leads_by_there rs way line other l = cond_true (ltb way 24) _ _ (lt-ltb way 24 l)
+leads_by_there rs way line other l = cond-true (ltb way 24) _ _ (lt-ltb way 24 l)
 
 leads_by_back : (rs : List (Option PairRule)) (way line other : ℕ) → 24 ≤ way → leads rs way line other ≡ is_from (get_or rs (way - 24) None) other line
 leads_by_back rs way line other l = cond-false (ltb way 24) _ _ (le-ltb way 24 l)
 
 permits_there : (rs : List (Option PairRule)) (way x y : ℕ) → way < 24 → permits rs way x y ≡ allows_at (get_or rs way None) x y
-permits_there rs way x y l = cond_true (ltb way 24) _ _ (lt-ltb way 24 l)
+permits_there rs way x y l = cond-true (ltb way 24) _ _ (lt-ltb way 24 l)
 
 permits_back : (rs : List (Option PairRule)) (way x y : ℕ) → 24 ≤ way → permits rs way x y ≡ allows_at (get_or rs (way - 24) None) y x
 permits_back rs way x y l = cond-false (ltb way 24) _ _ (le-ltb way 24 l)
@@ -179,7 +179,7 @@ module _ (rules : List (Option PairRule)) (k : ℕ) (rule : PairRule) (ways ways
   old_here = at_front rules k k ∙ cond-false (ltb k k) (get_or rules k None) None (le-ltb k k (omega arith))
 
   new_here : get_or (take (k + 1) rules) k None ≡ Some rule
-  new_here = at_front rules (k + 1) k ∙ cond_true (ltb k (k + 1)) (get_or rules k None) None (lt-ltb k (k + 1) (omega arith)) ∙ here
+  new_here = at_front rules (k + 1) k ∙ cond-true (ltb k (k + 1)) (get_or rules k None) None (lt-ltb k (k + 1) (omega arith)) ∙ here
 
   elsewhere : (i : ℕ) → (i ≡ k → ⊥) → get_or (take k rules) i None ≡ get_or (take (k + 1) rules) i None
   elsewhere i q = at_front rules k i ∙ ap (λ (b : Bool). cond b (get_or rules i None) None) (near i q) ∙ sym (at_front rules (k + 1) i)

@@ -1,4 +1,6 @@
 // The pair rules of a wall, ready for look-ups either way.
+#![tactic(auto)]
+
 ghost use Rattle.std.specs.Prelude.{◌≡◌, ℕ, ◌+◌, ◌<◌, ◌≤◌, true, false, ◌&&◌, ◌||◌, [], length, ◌==◌, nat_lt, slice_index_or};
 ghost use Rattle.masks.specs.Members.{is_option, has};
 ghost use Rattle.network.specs.Ways.{has_way, no_ways, IsNetwork, Marked, RulePut};

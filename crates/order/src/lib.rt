@@ -1,4 +1,6 @@
 // Entries with a strict total order, and the first of a group of them.
+#![tactic(auto)]
+
 ghost use Rattle.order.specs.Firsts.{FirstOf};
 ghost use Rattle.std.specs.Prelude.{◌≡◌, Bool, true, false, not, ◌≢◌};
 
@@ -22,7 +24,7 @@ pub trait Ordered {
 
 /// The index of the first of a group: of entries that are alike the one that stands earliest.
 pub fn first_of<T: Ordered>(group: &[T]) -> Option<usize>
-    ensures { FirstOf before group.now result }
+    ensures { FirstOf T.before group.now result }
 {
     if group.is_empty() {
         return None;

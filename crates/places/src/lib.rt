@@ -1,4 +1,6 @@
 // The places that a ranking gives to options and rows, and what is best by them.
+#![tactic(auto)]
+
 ghost use Rattle.std.specs.Prelude.{◌≡◌, ℕ, true, false, Decides, MatchOption};
 ghost use Rattle.masks.specs.Members.{has};
 ghost use Rattle.places.specs.Entries.{RanksRow, RanksOptions, FiguresOptions, is_pair, FirstByPlace, BestOption};

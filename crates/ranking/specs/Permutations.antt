@@ -2,7 +2,7 @@
 use Rattle.std.specs.Prelude.{◌≡◌, ℕ, zero, suc, ◌+◌, ◌<◌, ◌≤◌, Bool, true, false, cond, not, ◌&&◌, ◌||◌, ◌⊎◌, List, [], ◌∷◌, ◌++◌, length, get_or, ◌==◌, nat_eq, slice_index, slice_index_or, refl}
 use Rattle.std.proofs.Common.{sym, ap, ◌∙◌, append_assoc, ⊎_elim, add-one, arith, length-append}
 use Rattle.std.proofs.lemmas.List.{append-nil}
-use Rattle.std.proofs.lemmas.Bool.{cases_eq, cases_Bool, eq-eqb, ne_eqb, eqb-true, and_parts, and_from, or_parts, or_from, or_cases, both_ways, cond_true, cond-false}
+use Rattle.std.proofs.lemmas.Bool.{cases_eq, cases_Bool, eq-eqb, ne_eqb, eqb-true, and_parts, and_from, or_parts, or_from, or_cases, both_ways, cond-true, cond-false}
 use Rattle.ranking.specs.Lists.{stands, is_list, is_permutation, missing, filled, place_in}
 use Rattle.ranking.specs.ListLaws.{stands_append, stands_push, stands_none, stands_at, list_parts, list_option, list_push, whole, room, missing_old, missing_new, missing_none}
 
@@ -59,7 +59,7 @@ permutation_stands row o h l =
 pub place_at : (xs : List ℕ) → is_list xs ≡ true → (k d : ℕ) → k < length xs → place_in (slice_index_or xs k d) xs ≡ k
 unfolding place_in stands
 place_at [] h k d l = absurd (omega arith)
-place_at (x ∷ xs) h zero d l = cond_true (x == x) 0 (suc (place_in x xs)) (eq-eqb x x refl)
+place_at (x ∷ xs) h zero d l = cond-true (x == x) 0 (suc (place_in x xs)) (eq-eqb x x refl)
 place_at (x ∷ xs) h (suc k) d l =
     let p = list_parts x xs h in
     let y = get_or xs k d in
@@ -72,7 +72,7 @@ unfolding place_in stands
 at_place [] o d h = absurd (both_ways false refl h)
 at_place (x ∷ xs) o d h =
     ⊎_elim
-    (λ (e : nat_eq o x ≡ true). rw (cond_true (o == x) 0 (suc (place_in o xs)) e) (omega arith, sym (eqb-true o x e)))
+    (λ (e : nat_eq o x ≡ true). rw (cond-true (o == x) 0 (suc (place_in o xs)) e) (omega arith, sym (eqb-true o x e)))
     (λ (e : nat_eq o x ≡ false).
     let rest : stands o xs ≡ true = ⊎_elim (λ (t : nat_eq o x ≡ true). absurd (both_ways (o == x) e t)) (λ (t : stands o xs ≡ true). t) (or_cases (o == x) (stands o xs) h) in
     let ih = at_place xs o d rest in

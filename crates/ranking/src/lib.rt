@@ -1,4 +1,6 @@
 // Rankings: for each line, under the entries above it, the order of its options.
+#![tactic(auto)]
+
 ghost use Rattle.std.specs.Prelude.{◌≡◌, ℕ, Bool, List};
 ghost use Rattle.ranking.specs.Orders.{IsRanking, ArePlacesOf};
 

@@ -1,4 +1,6 @@
 // Rows of entries, whole or with some lines open.
+#![tactic(auto)]
+
 ghost use Rattle.std.specs.Prelude.{◌≡◌, ℕ, ◌&&◌, ◌||◌, length};
 ghost use Rattle.masks.specs.Members.{is_option};
 ghost use Rattle.rows.specs.Rows.{every, entry_test, is_row, is_partial};

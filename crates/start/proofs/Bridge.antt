@@ -1,7 +1,7 @@
 -- Rule-keeping rows of a wall are the rows that fit its network and have free options.
 use Rattle.std.proofs.Common.{◌≡◌, ℕ, ◌+◌, ◌-◌, ◌<◌, ◌≤◌, Bool, true, false, cond, not, ◌&&◌, eqb, ltb, leb, ◌⊎◌, List, [], length, get_or, take, Some, None, Option, sym, refl, ap, ◌∙◌, inl, inr, ⊎_elim, arith}
 use Rattle.std.proofs.lemmas.List.{get_or-take, get_or_past, length-take-le}
-use Rattle.std.proofs.lemmas.Bool.{cases_lt, cases_Bool, both_ways, and_parts, and_from, ltb-true, lt-ltb, le-ltb, leb-true, eqb-true, eq-eqb, not-true, not_from_false, cond_true, cond-false}
+use Rattle.std.proofs.lemmas.Bool.{cases_lt, cases_Bool, both_ways, and_parts, and_from, ltb-true, lt-ltb, le-ltb, leb-true, eqb-true, eq-eqb, not-true, not_from_false, cond-true, cond-false}
 use Rattle.masks.specs.declared.Mask.{Mask}
 use Rattle.masks.specs.Members.{is_option, has}
 use Rattle.rows.specs.Rows.{is_row}
@@ -66,7 +66,7 @@ module _ (wall : Wall) (bars : Bars) (net : Network) (passes : ℕ → List ℕ 
       ∙ and_from (is_option (get_or β other 0)) (permits wall.rules way (get_or β line 0) (get_or β other 0)) (lt-ltb (get_or β other 0) 16 y)
       (⊎_elim
       (λ (s : way < 24).
-      cond_true (ltb way 24) _ _ (lt-ltb way 24 s) ∙ from_allows (get_or wall.rules way None) β line other (sym (cond_true (ltb way 24) _ _ (lt-ltb way 24 s)) ∙ j.1) (k.paired way))
+      cond-true (ltb way 24) _ _ (lt-ltb way 24 s) ∙ from_allows (get_or wall.rules way None) β line other (sym (cond-true (ltb way 24) _ _ (lt-ltb way 24 s)) ∙ j.1) (k.paired way))
       (λ (s : 24 ≤ way).
       cond-false (ltb way 24) _ _ (le-ltb way 24 s) ∙ from_allows (get_or wall.rules (way - 24) None) β other line (sym (cond-false (ltb way 24) _ _ (le-ltb way 24 s)) ∙ j.1) (k.paired (way - 24)))
       (cases_lt way 24))
@@ -131,9 +131,9 @@ module _ (wall : Wall) (bars : Bars) (net : Network) (passes : ℕ → List ℕ 
           let b = ltb-true rule.second wall.lines q.1 in
           let x = row_option wall.lines β f.row rule.first 0 a in
           let there : leads wall.rules i rule.first rule.second ≡ true =
-          cond_true (ltb i 24) _ _ (lt-ltb i 24 s) ∙ ap (λ (o : Option PairRule). is_from o rule.first rule.second) e ∙ and_from (eqb rule.first rule.first) (eqb rule.second rule.second) (eq-eqb _ _ refl) (eq-eqb _ _ refl) in
+          cond-true (ltb i 24) _ _ (lt-ltb i 24 s) ∙ ap (λ (o : Option PairRule). is_from o rule.first rule.second) e ∙ and_from (eqb rule.first rule.first) (eqb rule.second rule.second) (eq-eqb _ _ refl) (eq-eqb _ _ refl) in
           let leads' : has_way (get_or (get_or net.ways rule.first []) rule.second no_ways) i ≡ true =
           is.joined rule.first rule.second i (omega arith) (omega arith) ∙ and_from (ltb i 48) (leads wall.rules i rule.first rule.second) (lt-ltb i 48 (omega arith)) there in
           let left = f.obeys rule.first rule.second i a b leads' in
           let perm = (and_parts (is_option (get_or β rule.second 0)) (permits wall.rules i (get_or β rule.first 0) (get_or β rule.second 0)) (sym (is.left i (get_or β rule.first 0) (get_or β rule.second 0) (omega arith) x) ∙ left)).1 in
-          ap (λ (o : Option PairRule). allows_at o (get_or β rule.first 0) (get_or β rule.second 0)) (sym e) ∙ sym (cond_true (ltb i 24) _ _ (lt-ltb i 24 s)) ∙ perm
+          ap (λ (o : Option PairRule). allows_at o (get_or β rule.first 0) (get_or β rule.second 0)) (sym e) ∙ sym (cond-true (ltb i 24) _ _ (lt-ltb i 24 s)) ∙ perm

@@ -1,6 +1,6 @@
 -- A pair rule can be followed either way, and joins two lines.
 use Rattle.std.proofs.Common.{◌≡◌, ℕ, ◌+◌, ◌-◌, ◌<◌, ◌≤◌, Bool, true, false, cond, not, ◌&&◌, ◌||◌, eqb, ltb, ◌⊎◌, List, [], get_or, Some, None, Option, sym, refl, ap, ◌∙◌, inl, inr, ⊎_elim, arith}
-use Rattle.std.proofs.lemmas.Bool.{cases_lt, cases_Bool, both_ways, and_parts, and_from, or_cases, ltb-true, lt-ltb, le-ltb, eqb-true, eq-eqb, not-true, not_from_false, cond_true, cond-false}
+use Rattle.std.proofs.lemmas.Bool.{cases_lt, cases_Bool, both_ways, and_parts, and_from, or_cases, ltb-true, lt-ltb, le-ltb, eqb-true, eq-eqb, not-true, not_from_false, cond-true, cond-false}
 use Rattle.masks.specs.declared.Mask.{Mask}
 use Rattle.masks.specs.Members.{is_option, has}
 use Rattle.masks.proofs.Members.{has_option}
@@ -40,7 +40,7 @@ no_loop lines (Some rule) line filed from =
 -- the way back
 turned_below : (way : ℕ) → way < 48 → turned way < 48
 turned_below way w = ⊎_elim
-    (λ (s : way < 24). let e = cond_true {A = ℕ} (ltb way 24) (24 + way) (way - 24) (lt-ltb way 24 s) in omega arith)
+    (λ (s : way < 24). let e = cond-true {A = ℕ} (ltb way 24) (24 + way) (way - 24) (lt-ltb way 24 s) in omega arith)
     (λ (s : 24 ≤ way). let e = cond-false {A = ℕ} (ltb way 24) (24 + way) (way - 24) (le-ltb way 24 s) in omega arith)
     (cases_lt way 24)
 
@@ -52,13 +52,13 @@ module _ (rules : List (Option PairRule)) (meaning : Option PairRule → ℕ →
   by_turned : (way a b : ℕ) → way < 48 → by_way (turned way) b a ≡ by_way way a b
   by_turned way a b w = ⊎_elim
       (λ (s : way < 24).
-      ap (λ (k : ℕ). by_way k b a) (cond_true (ltb way 24) (24 + way) (way - 24) (lt-ltb way 24 s))
+      ap (λ (k : ℕ). by_way k b a) (cond-true (ltb way 24) (24 + way) (way - 24) (lt-ltb way 24 s))
       ∙ cond-false (ltb (24 + way) 24) _ _ (le-ltb (24 + way) 24 (omega arith))
       ∙ ap (λ (k : ℕ). meaning (get_or rules k None) a b) (let e : (24 + way) - 24 ≡ way = omega arith in e)
-      ∙ sym (cond_true (ltb way 24) _ _ (lt-ltb way 24 s)))
+      ∙ sym (cond-true (ltb way 24) _ _ (lt-ltb way 24 s)))
       (λ (s : 24 ≤ way).
       ap (λ (k : ℕ). by_way k b a) (cond-false (ltb way 24) (24 + way) (way - 24) (le-ltb way 24 s))
-      ∙ cond_true (ltb (way - 24) 24) _ _ (lt-ltb (way - 24) 24 (omega arith))
+      ∙ cond-true (ltb (way - 24) 24) _ _ (lt-ltb (way - 24) 24 (omega arith))
       ∙ sym (cond-false (ltb way 24) _ _ (le-ltb way 24 s)))
       (cases_lt way 24)
 
@@ -73,7 +73,7 @@ module _ (wall : Wall) (net : Network) (is : IsNetwork wall.rules net.ways net.t
       let p = and_parts (ltb line 16) (has_way (get_or (get_or net.ways line []) line no_ways) way) h in
       let q = leading way line line (ltb-true line 16 p.0) (ltb-true line 16 p.0) p.1 in
       ⊎_elim
-      (λ (s : way < 24). no_loop wall.lines (get_or wall.rules way None) line (wall.filed way) (sym (cond_true (ltb way 24) _ _ (lt-ltb way 24 s)) ∙ q.1))
+      (λ (s : way < 24). no_loop wall.lines (get_or wall.rules way None) line (wall.filed way) (sym (cond-true (ltb way 24) _ _ (lt-ltb way 24 s)) ∙ q.1))
       (λ (s : 24 ≤ way). no_loop wall.lines (get_or wall.rules (way - 24) None) line (wall.filed (way - 24)) (sym (cond-false (ltb way 24) _ _ (le-ltb way 24 s)) ∙ q.1))
       (cases_lt way 24))
 

@@ -1,4 +1,6 @@
 // What a search begins with: the free options of each line.
+#![tactic(auto)]
+
 ghost use Rattle.std.specs.Prelude.{◌≡◌, ℕ, ◌<◌};
 ghost use Rattle.masks.specs.Members.{has};
 ghost use Rattle.start.specs.Starts.{is_free, AreFree};

@@ -1,6 +1,6 @@
 -- As many things as places: a list without repeats whose entries all stand in another is no longer than that one.
 use Rattle.std.proofs.Common.{◌≡◌, ℕ, zero, suc, ◌+◌, ◌-◌, ◌<◌, ◌≤◌, Bool, true, false, cond, ltb, ◌⊎◌, List, [], length, get_or, sym, refl, ap, ◌∙◌, ⊎_elim, arith}
-use Rattle.std.proofs.lemmas.Bool.{cases_lt, lt-ltb, le-ltb, cond_true, cond-false}
+use Rattle.std.proofs.lemmas.Bool.{cases_lt, lt-ltb, le-ltb, cond-true, cond-false}
 
 -- the numbers other than j, counted through, and back
 skip : ℕ → ℕ → ℕ
@@ -13,7 +13,7 @@ skip_unskip : (j x : ℕ) → (x ≡ j → ⊥) → skip j (unskip j x) ≡ x
 unfolding skip unskip
 skip_unskip j x ne =
     ⊎_elim
-    (λ (l : x < j). rw (cond_true (ltb x j) x (x - 1) (lt-ltb x j l)) (cond_true (ltb x j) x (suc x) (lt-ltb x j l)))
+    (λ (l : x < j). rw (cond-true (ltb x j) x (x - 1) (lt-ltb x j l)) (cond-true (ltb x j) x (suc x) (lt-ltb x j l)))
     (λ (l : j ≤ x).
     let a = cond-false (ltb x j) x (x - 1) (le-ltb x j l) in
     let e : suc (x - 1) ≡ x = omega arith in
@@ -24,7 +24,7 @@ unskip_less : (j x n : ℕ) → (x ≡ j → ⊥) → j < n → x < n → unskip
 unfolding unskip
 unskip_less j x n ne l m =
     ⊎_elim
-    (λ (h : x < j). rw (cond_true (ltb x j) x (x - 1) (lt-ltb x j h)) (omega arith))
+    (λ (h : x < j). rw (cond-true (ltb x j) x (x - 1) (lt-ltb x j h)) (omega arith))
     (λ (h : j ≤ x). rw (cond-false (ltb x j) x (x - 1) (le-ltb x j h)) (omega arith))
     (cases_lt x j)
 

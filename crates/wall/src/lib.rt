@@ -1,4 +1,6 @@
 // Walls: lines with their options, pair rules and bars; and the order of the plans of a wall.
+#![tactic(auto)]
+
 ghost use Rattle.wall.specs.Theorems.{RowsInOrder, OneBest, OnePlace, OwnPlace};
 
 pub mod bars;

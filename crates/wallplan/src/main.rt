@@ -1,4 +1,6 @@
 // The program: plans a wall and prints the plan.
+#![tactic(auto)]
+
 ghost use Rattle.wallplan.specs.Plans.{BestRow};
 
 use house::HouseRule;

@@ -9,10 +9,10 @@ returns-in-Some g c = (
   (λ choice.
       let w = c.in-Some.ensures.0 choice in (
         narrowed (rules_of c.args.problem.now.lines c.args.problem.now.net (g.H.HouseRule.passing c.args.house.now)) c.args.row.now c.args.line c.args.option c.only.result
-            c.args.masks.now c.args.causes.now c.check-forward.new.masks c.check-forward.new.causes choice (omega arith) c.only.ensures w.0,
+            c.args.masks.now c.args.causes.now c.check_forward.new.masks c.check_forward.new.causes choice (omega arith) c.only.ensures w.0,
         (c.in-Some.dead, w.1, refl),
       )),
-  (λ none. absurd (both_ways _ none (sym c.chosen_option.ensures ∙ c.if-not-is-choice.false))),
+  (λ none. absurd (both_ways _ none (sym c.chosen_option.ensures ∙ c.if-not-is_choice.false))),
 )
 
 pub returns-in-None : goal.returns-in-None
@@ -20,8 +20,8 @@ returns-in-None g c = (
   (λ choice.
       let w = c.in-None.ensures.0 choice in (
         narrowed (rules_of c.args.problem.now.lines c.args.problem.now.net (g.H.HouseRule.passing c.args.house.now)) c.args.row.now c.args.line c.args.option c.only.result
-            c.args.masks.now c.args.causes.now c.check-forward.new.masks c.check-forward.new.causes choice (omega arith) c.only.ensures w.0,
+            c.args.masks.now c.args.causes.now c.check_forward.new.masks c.check_forward.new.causes choice (omega arith) c.only.ensures w.0,
         w.1,
       )),
-  (λ none. absurd (both_ways _ none (sym c.chosen_option.ensures ∙ c.if-not-is-choice.false))),
+  (λ none. absurd (both_ways _ none (sym c.chosen_option.ensures ∙ c.if-not-is_choice.false))),
 )

@@ -8,7 +8,7 @@ use Rattle.forward.specs.Fits.{Rules, rules_of}
 use Rattle.forward.specs.Causes.{Shrunk, Swept, Dead}
 use Rattle.forward.proofs.Sweeping.{Ruling, SweptTo, ruling_none, ruling_more, ruling_all, shrunk_settled, shrunk_empty, swept_none, swept_chosen, swept_open, swept_more, swept_dead, swept_all}
 use Rattle.forward.proofs.sweep.Goals as goal
-use Rattle.forward.proofs.sweep.Goals.{then-row-other+in-default+else-is-empty-2, else-row-other}
+use Rattle.forward.proofs.sweep.Goals.{then-row-other+in_default+else-is_empty-2, else-row-other}
 
 pub loop-way-preserved : goal.loop-way-preserved
 loop-way-preserved g c =
@@ -38,12 +38,12 @@ loop-other-preserved g c =
     let is = c.loop-other.causes in
     let h = c.loop-other.invariant in
     elim c.if-row-other.branch [
-      | then-row-other+in-default+else-is-empty-2 w ↦
+      | then-row-other+in_default+else-is_empty-2 w ↦
           let share = w.settle-share.result in
-          let ruled = ruling_all r line x k c.requires.line l c.requires.few c.requires.option (get_or new k no_options) w.loop-way.ruled w.loop-way.ways w.loop-way.invariant.2 w.in-default.ensures in
+          let ruled = ruling_all r line x k c.requires.line l c.requires.few c.requires.option (get_or new k no_options) w.loop-way.ruled w.loop-way.ways w.loop-way.invariant.2 w.in_default.ensures in
           let s = at_first r line x row k c.args.masks.now c.args.causes.now new is share.left share.causes h
           (shrunk_settled r line x k c.requires.line l c.requires.few c.requires.option (get_or new k no_options) row c.requires.chosen (get_or is k no_options) w.loop-way.ruled share.left share.causes ruled w.settle-share.ensures) in
-          let some = some_option share.left (λ f. both_ways w.is-empty-then-row-other.result w.if-is-empty-2.false (w.is-empty-then-row-other.ensures.1 f)) in
+          let some = some_option share.left (λ f. both_ways w.is_empty-then-row-other.result w.if-is_empty-2.false (w.is_empty-then-row-other.ensures.1 f)) in
           let masks-is = w.masks-is ∙ ap (λ (m : List Mask). set m k share.left) w.loop-way.invariant.0 in
           let causes-is = w.causes-is ∙ ap (λ (m : List Mask). set m k share.causes) w.loop-way.invariant.1 in
           rw (masks-is, causes-is) (swept_more r line x row c.args.masks.now c.args.causes.now c.requires.few k l new is h (eq-eqb (get_or row k 0) 255 w.if-row-other.true) share.left share.causes s some.0 some.1)
@@ -51,8 +51,8 @@ loop-other-preserved g c =
           rw (w.masks-is, w.causes-is) (swept_chosen r line x row c.args.masks.now c.args.causes.now c.requires.few k l new is h (ne_eqb (get_or row k 0) 255 w.if-row-other.false))
     ]
 
-pub returns-then-is-empty : goal.returns-then-is-empty
-returns-then-is-empty g c =
+pub returns-then-is_empty : goal.returns-then-is_empty
+returns-then-is_empty g c =
     let r = rules_of c.args.n c.args.net.now (g.H.HouseRule.passing c.args.house.now) in
     let line = c.args.line in
     let x = c.args.option in
@@ -63,7 +63,7 @@ returns-then-is-empty g c =
     let is = c.loop-other.causes in
     let h = c.loop-other.invariant in
     let d = c.in-Some.ensures in
-    let none = c.is-empty.ensures.0 c.if-is-empty.true in
+    let none = c.is_empty.ensures.0 c.if-is_empty.true in
     let more = ruling_more r line x k c.requires.line l c.requires.few c.requires.option (get_or new k no_options) c.loop-way.ruled c.both-ruled.result c.left.result c.loop-way.ways c.in-Some.rest c.in-Some.way
     c.loop-way.invariant.2 d.0 d.1 c.left.ensures c.both-ruled.ensures in
     let s = at_first r line x row k c.args.masks.now c.args.causes.now new is c.both-ruled.result c.with.result h
@@ -74,8 +74,8 @@ returns-then-is-empty g c =
       dead = swept_dead r line x row c.args.masks.now c.args.causes.now c.requires.few k l new is h o c.both-ruled.result c.with.result s none;
     })
 
-pub returns-then-is-empty-2 : goal.returns-then-is-empty-2
-returns-then-is-empty-2 g c =
+pub returns-then-is_empty-2 : goal.returns-then-is_empty-2
+returns-then-is_empty-2 g c =
     let r = rules_of c.args.n c.args.net.now (g.H.HouseRule.passing c.args.house.now) in
     let line = c.args.line in
     let x = c.args.option in
@@ -86,11 +86,11 @@ returns-then-is-empty-2 g c =
     let is = c.loop-other.causes in
     let h = c.loop-other.invariant in
     let share = c.settle-share.result in
-    let ruled = ruling_all r line x k c.requires.line l c.requires.few c.requires.option (get_or new k no_options) c.loop-way.ruled c.loop-way.ways c.loop-way.invariant.2 c.in-default.ensures in
+    let ruled = ruling_all r line x k c.requires.line l c.requires.few c.requires.option (get_or new k no_options) c.loop-way.ruled c.loop-way.ways c.loop-way.invariant.2 c.in_default.ensures in
     let s = at_first r line x row k c.args.masks.now c.args.causes.now new is share.left share.causes h
     (shrunk_settled r line x k c.requires.line l c.requires.few c.requires.option (get_or new k no_options) row c.requires.chosen (get_or is k no_options) c.loop-way.ruled share.left share.causes ruled c.settle-share.ensures) in
     let o = eq-eqb (get_or row k 0) 255 c.if-row-other.true in
-    let none = c.is-empty-then-row-other.ensures.0 c.if-is-empty-2.true in
+    let none = c.is_empty-then-row-other.ensures.0 c.if-is_empty-2.true in
     rw (c.loop-way.invariant.0, c.loop-way.invariant.1) (record {
       swept = swept_open r line x row c.args.masks.now c.args.causes.now c.requires.few k l new is h o share.left share.causes s;
       dead = swept_dead r line x row c.args.masks.now c.args.causes.now c.requires.few k l new is h o share.left share.causes s none;

@@ -21,8 +21,8 @@ descend-returns-then-depth-problem g t c = record {
   unmoved = λ k l. refl;
 }
 
-pub descend-follow-requires : goal.descend-follow-requires
-descend-follow-requires g t c κs within =
+pub descend_follow-requires : goal.descend_follow-requires
+descend_follow-requires g t c κs within =
     let same = sym (c.loop-option.invariant.2 c.args.depth (omega arith)) in (
       omega arith,
       (
@@ -88,7 +88,7 @@ descend-returns g t c =
     let level = get_or c.args.levels.now c.args.depth no_level in
     record {
       ends = all_tried (rules_of c.args.problem.now.lines c.args.problem.now.net (g.H.HouseRule.passing c.args.house.now)) s level.masks level.causes c.args.row c.requires.reached.long c.requires.reached.placed c.requires.reached.blamed
-          Never c.args.depth c.loop-option.left c.loop-option.blame c.in-default.ensures c.loop-option.invariant.1;
+          Never c.args.depth c.loop-option.left c.loop-option.blame c.in_default.ensures c.loop-option.invariant.1;
       unmoved = c.loop-option.invariant.2;
     }
 

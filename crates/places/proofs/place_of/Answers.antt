@@ -1,13 +1,13 @@
 use Rattle.std.proofs.Common.{◌≡◌, ℕ, ◌+◌, ◌≤◌, Bool, true, false, sym, ap, ◌∙◌, arith, rules}
 use Rattle.masks.proofs.Counts.{how_many_le, how_many_in, how_many_out, how_many_zero}
 use Rattle.places.proofs.place_of.Goals as goal
-use Rattle.places.proofs.place_of.Goals.{then-goes-before, else-goes-before}
+use Rattle.places.proofs.place_of.Goals.{then-goes_before, else-goes_before}
 
 pub loop-other-init : goal.loop-other-init
 loop-other-init g c = sym (how_many_zero (λ a. g.R.Ranking.before c.args.ranking.now c.args.line c.args.above.now a c.args.option))
 
-pub overflow-add-place : goal.overflow-add-place
-overflow-add-place g c =
+pub overflow_add-place : goal.overflow_add-place
+overflow_add-place g c =
     let test : ℕ → Bool = λ a. g.R.Ranking.before c.args.ranking.now c.args.line c.args.above.now a c.args.option in
     let few = how_many_le test c.loop-other.other in
     let e = c.loop-other.invariant in
@@ -16,7 +16,7 @@ overflow-add-place g c =
 pub loop-other-preserved : goal.loop-other-preserved
 loop-other-preserved g c =
     let test : ℕ → Bool = λ a. g.R.Ranking.before c.args.ranking.now c.args.line c.args.above.now a c.args.option in
-    elim c.if-goes-before.branch [
-      | then-goes-before w ↦ w.place-is ∙ ap (λ (n : ℕ). n + 1) c.loop-other.invariant ∙ sym (how_many_in test c.loop-other.other (sym w.if-goes-before.ensures))
-      | else-goes-before w ↦ w.place-is ∙ c.loop-other.invariant ∙ sym (how_many_out test c.loop-other.other (sym w.if-goes-before.ensures))
+    elim c.if-goes_before.branch [
+      | then-goes_before w ↦ w.place-is ∙ ap (λ (n : ℕ). n + 1) c.loop-other.invariant ∙ sym (how_many_in test c.loop-other.other (sym w.if-goes_before.ensures))
+      | else-goes_before w ↦ w.place-is ∙ c.loop-other.invariant ∙ sym (how_many_out test c.loop-other.other (sym w.if-goes_before.ensures))
     ]

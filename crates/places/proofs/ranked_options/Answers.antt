@@ -16,7 +16,7 @@ loop-option-preserved g c =
     let so_far = c.loop-option.invariant.1 in
     elim c.if-has.branch [
       | then-has w ↦
-          let joined = w.entries-is ∙ ap (λ (p : ℕ). set entries count (record { option = o; place = p })) w.place-of.ensures in
+          let joined = w.entries-is ∙ ap (λ (p : ℕ). set entries count (record { option = o; place = p })) w.place_of.ensures in
           rw (joined, w.count-is) (omega arith, group_in before line above c.args.options entries count o c.loop-option-test.true so_far room (sym w.if-has.ensures))
       | else-has w ↦
           rw (w.entries-is, w.count-is) (omega arith, group_out before line above c.args.options entries count o c.loop-option-test.true so_far room (sym w.if-has.ensures))

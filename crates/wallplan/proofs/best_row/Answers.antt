@@ -13,13 +13,13 @@ pub loop-line-init : goal.loop-line-init
 unfolding every
 loop-line-init g c = (refl, refl, λ k l. absurd (omega arith))
 
-pub returns-in-default : goal.returns-in-default
-returns-in-default g c =
+pub returns-in_default : goal.returns-in_default
+returns-in_default g c =
     let line = c.loop-line.line in
     let l = c.loop-line-test.true in
     let cut : take (line - 0) c.loop-line.row ≡ take line c.loop-line.row = ap (λ (n : ℕ). take n c.loop-line.row) (omega arith) in
     let under : is_under line (take (line - 0) c.loop-line.row) ≡ true = ap (is_under line) cut ∙ under_from line (take line c.loop-line.row) (omega arith) c.loop-line.invariant.1 in
-    (line, l, none_left c.args.counts.now line c.first.result c.first.ensures (c.in-default.ensures under))
+    (line, l, none_left c.args.counts.now line c.first.result c.first.ensures (c.in_default.ensures under))
 
 pub loop-line-preserved : goal.loop-line-preserved
 loop-line-preserved g c =

@@ -3,7 +3,7 @@ use Rattle.std.proofs.lemmas.List.{take_all}
 use Rattle.network.specs.Ways.{IsNetwork}
 use Rattle.network.proofs.NetLaws.{net_more, net_skip, rule_lines, at_number}
 use Rattle.network.proofs.Network.of.Goals as goal
-use Rattle.network.proofs.Network.of.Goals.{in-Some, in-default}
+use Rattle.network.proofs.Network.of.Goals.{in-Some, in_default}
 
 pub put-requires : goal.put-requires
 put-requires c =
@@ -21,8 +21,8 @@ loop-k-preserved c =
       | in-Some w ↦
           let here = at_number rules k (Some w.in-Some.rule) c.loop-k-test.true w.in-Some.ensures.0 in
           rw w.net-is (net_more rules k w.in-Some.rule net.ways w.put.new.self.ways net.tables w.put.new.self.tables c.loop-k-test.true here c.loop-k.invariant w.put.ensures)
-      | in-default w ↦
-          let here = at_number rules k None c.loop-k-test.true w.in-default.ensures.0 in
+      | in_default w ↦
+          let here = at_number rules k None c.loop-k-test.true w.in_default.ensures.0 in
           rw w.net-is (net_skip rules k net.ways net.tables here c.loop-k.invariant)
     ]
 

@@ -21,8 +21,8 @@ bounds-row-end c =
     let e = c.loop-option.invariant.1 in
     omega arith
 
-pub overflow-add-end : goal.overflow-add-end
-overflow-add-end c = let h = bounds-row-end c in search rules
+pub overflow_add-end : goal.overflow_add-end
+overflow_add-end c = let h = bounds-row-end c in search rules
 
 pub loop-option-preserved : goal.loop-option-preserved
 loop-option-preserved c =

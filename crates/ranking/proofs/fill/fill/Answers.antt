@@ -6,7 +6,7 @@ use Rattle.ranking.proofs.fill.fill.Goals as goal
 
 pub complete-requires : goal.complete-requires
 complete-requires c =
-    let f = c.in-ok-front.ensures in
+    let f = c.in_ok-front.ensures in
     record {
       short = list_short c.args.list.now f.0;
       list = ap is_list f.1 ∙ f.0;
@@ -15,6 +15,6 @@ complete-requires c =
 
 pub returns : goal.returns
 returns c =
-    let f = c.in-ok-front.ensures in
+    let f = c.in_ok-front.ensures in
     let e = c.complete.ensures ∙ ap filled f.1 in
     (f.0, e, ap is_permutation e ∙ filled_permutation c.args.list.now f.0)

@@ -3,8 +3,8 @@ use Rattle.std.proofs.Common.{refl, lit≤}
 use Rattle.house.proofs.Cards.{none_held, none_few}
 use Rattle.house.proofs.holds.Holds.new.Goals as goal
 
-pub invariant-of-result : goal.invariant-of-result
-invariant-of-result c = (none_few 16 16, (lit≤ tt, tt))
+pub invariant_of-result : goal.invariant_of-result
+invariant_of-result c = (none_few 16 16, (lit≤ tt, tt))
 
 pub returns : goal.returns
 returns c = record { counts = none_held 16 16; limit = refl }

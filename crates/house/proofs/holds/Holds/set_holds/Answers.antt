@@ -6,8 +6,8 @@ use Rattle.house.specs.Loads.{is_card, is_count}
 use Rattle.house.proofs.Cards.{one_changed, few_written}
 use Rattle.house.proofs.holds.Holds.set_holds.Goals as goal
 
-pub invariant-of-self : goal.invariant-of-self
-invariant-of-self c = (few_written c.args.self.now.counts _ _ _ c.args.self.now.few c.if-figure-gt999.false, (c.args.self.now.bounded, tt))
+pub invariant_of-self : goal.invariant_of-self
+invariant_of-self c = (few_written c.args.self.now.counts _ _ _ c.args.self.now.few c.if-figure-gt999.false, (c.args.self.now.bounded, tt))
 
 pub returns : goal.returns
 returns c =

@@ -3,9 +3,9 @@ use Rattle.std.proofs.lemmas.List.{get_or-replicate}
 use Rattle.ranking.specs.Lists.{stands, is_list, is_permutation, missing, filled, place_in, are_places}
 use Rattle.ranking.proofs.lists.Lists.rising.Goals as goal
 
-pub invariant-of-result : goal.invariant-of-result
+pub invariant_of-result : goal.invariant_of-result
 unfolding stands is_list is_permutation missing filled place_in are_places
-invariant-of-result g c = (λ k l. rw (get_or-replicate g.row.N k _ _ l) refl, (λ k l. rw (get_or-replicate g.row.N k _ _ l) refl, tt))
+invariant_of-result g c = (λ k l. rw (get_or-replicate g.row.N k _ _ l) refl, (λ k l. rw (get_or-replicate g.row.N k _ _ l) refl, tt))
 
 pub returns : goal.returns
 unfolding stands is_list is_permutation missing filled place_in

@@ -2,5 +2,5 @@ use Rattle.std.proofs.Common.{arith}
 use Rattle.start.proofs.Turning.{apart, back, both}
 use Rattle.start.proofs.problem.Problem.of.Goals as goal
 
-pub invariant-of-result : goal.invariant-of-result
-invariant-of-result c = (omega arith, (omega arith, (apart c.args.wall.now c.of.result c.of.ensures, (back c.args.wall.now c.of.result c.of.ensures, (both c.args.wall.now c.of.result c.of.ensures, tt)))))
+pub invariant_of-result : goal.invariant_of-result
+invariant_of-result c = (omega arith, (omega arith, (apart c.args.wall.now c.of.result c.of.ensures, (back c.args.wall.now c.of.result c.of.ensures, (both c.args.wall.now c.of.result c.of.ensures, tt)))))

@@ -5,8 +5,8 @@ use Rattle.wall.specs.Rules.{is_count}
 use Rattle.wall.proofs.WallLaws.{counted_more, filed_more}
 use Rattle.wall.proofs.wall.Wall.add_line.Goals as goal
 
-pub invariant-of-self : goal.invariant-of-self
-invariant-of-self c =
+pub invariant_of-self : goal.invariant_of-self
+invariant_of-self c =
     let self = c.args.self.now in
     let n = self.lines in
     let whole : length self.counts ≡ 16 = self.sixteen in

@@ -5,8 +5,8 @@ use Rattle.wall.specs.Rules.{joins}
 use Rattle.wall.proofs.WallLaws.{filed_put}
 use Rattle.wall.proofs.wall.Wall.put_rule.Goals as goal
 
-pub invariant-of-self : goal.invariant-of-self
-invariant-of-self c =
+pub invariant_of-self : goal.invariant_of-self
+invariant_of-self c =
     let self = c.args.self.now in
     let rule = c.args.rule in
     let good : joins self.lines rule ≡ true =
