@@ -12,7 +12,7 @@ returns-in-Some g c = (
             c.args.masks.now c.args.causes.now c.check_forward.new.masks c.check_forward.new.causes choice (omega arith) c.only.ensures w.0,
         (c.in-Some.dead, w.1, refl),
       )),
-  (λ none. absurd (both_ways _ none (sym c.chosen_option.ensures ∙ c.if-not-is_choice.false))),
+  (λ none. absurd (both_ways _ none (sym c.is_choice.ensures ∙ c.if-not-is_choice.false))),
 )
 
 pub returns-in-None : goal.returns-in-None
@@ -23,5 +23,5 @@ returns-in-None g c = (
             c.args.masks.now c.args.causes.now c.check_forward.new.masks c.check_forward.new.causes choice (omega arith) c.only.ensures w.0,
         w.1,
       )),
-  (λ none. absurd (both_ways _ none (sym c.chosen_option.ensures ∙ c.if-not-is_choice.false))),
+  (λ none. absurd (both_ways _ none (sym c.is_choice.ensures ∙ c.if-not-is_choice.false))),
 )

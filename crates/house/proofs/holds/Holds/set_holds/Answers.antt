@@ -7,7 +7,7 @@ use Rattle.house.proofs.Cards.{one_changed, few_written}
 use Rattle.house.proofs.holds.Holds.set_holds.Goals as goal
 
 pub invariant_of-self : goal.invariant_of-self
-invariant_of-self c = (few_written c.args.self.now.counts _ _ _ c.args.self.now.few c.if-figure-gt999.false, (c.args.self.now.bounded, tt))
+invariant_of-self c = record { few = few_written c.args.self.now.counts _ _ _ c.args.self.now.few c.if-figure-gt999.false; bounded = c.args.self.now.bounded }
 
 pub returns : goal.returns
 returns c =

@@ -8,5 +8,5 @@ pub returns : goal.returns
 returns c =
     let line = c.args.line in
     let below = slot_below (get_or c.args.self.now.parents line Unsettled) line c.args.above.now c.requires in
-    let option = c.option_under_small.ensures in
+    let option = c.option_under.ensures in
     (ap (slot line) option, omega arith)

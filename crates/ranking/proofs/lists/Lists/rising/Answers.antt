@@ -5,7 +5,7 @@ use Rattle.ranking.proofs.lists.Lists.rising.Goals as goal
 
 pub invariant_of-result : goal.invariant_of-result
 unfolding stands is_list is_permutation missing filled place_in are_places
-invariant_of-result g c = (λ k l. rw (get_or-replicate g.row.N k _ _ l) refl, (λ k l. rw (get_or-replicate g.row.N k _ _ l) refl, tt))
+invariant_of-result g c = record { whole = λ k l. rw (get_or-replicate g.row.N k _ _ l) refl; placed = λ k l. rw (get_or-replicate g.row.N k _ _ l) refl }
 
 pub returns : goal.returns
 unfolding stands is_list is_permutation missing filled place_in

@@ -13,16 +13,10 @@ invariant_of-self c =
     let room : n < length self.counts = omega arith in
     let some : c.args.count ≡ 0 → ⊥ = c.if-count-eq0.false in
     let most : c.args.count ≤ 16 = c.if-count-gt16.false in
-    let good : is_count c.args.count ≡ true = and_from (ltb 0 c.args.count) (leb c.args.count 16) (lt-ltb 0 c.args.count (omega arith)) (le-leb c.args.count 16 most) in (
-      omega arith,
-      (
-        length-set self.counts n c.args.count ∙ self.sixteen,
-        (
-          self.numbers,
-          (
-            counted_more self.counts n c.args.count room good self.counted,
-            (λ k. filed_more n _ (self.filed k), tt),
-          ),
-        ),
-      ),
-    )
+    let good : is_count c.args.count ≡ true = and_from (ltb 0 c.args.count) (leb c.args.count 16) (lt-ltb 0 c.args.count (omega arith)) (le-leb c.args.count 16 most) in record {
+      few = omega arith;
+      sixteen = length-set self.counts n c.args.count ∙ self.sixteen;
+      numbers = self.numbers;
+      counted = counted_more self.counts n c.args.count room good self.counted;
+      filed = λ k. filed_more n _ (self.filed k);
+    }

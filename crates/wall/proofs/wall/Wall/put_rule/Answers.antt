@@ -12,13 +12,10 @@ invariant_of-self c =
     let good : joins self.lines rule ≡ true =
     and_from (ltb rule.first self.lines && ltb rule.second self.lines) (not (eqb rule.first rule.second))
     (and_from (ltb rule.first self.lines) (ltb rule.second self.lines) (lt-ltb _ _ (omega arith)) (lt-ltb _ _ (omega arith)))
-    (not_from_false (eqb rule.first rule.second) (ne_eqb _ _ (omega arith))) in (
-      self.few,
-      (
-        self.sixteen,
-        (
-          length-set self.rules (c.args.number - 1) (Some c.args.rule) ∙ self.numbers,
-          (self.counted, (filed_put self.rules self.lines (c.args.number - 1) (Some c.args.rule) good self.filed, tt)),
-        ),
-      ),
-    )
+    (not_from_false (eqb rule.first rule.second) (ne_eqb _ _ (omega arith))) in record {
+      few = self.few;
+      sixteen = self.sixteen;
+      numbers = length-set self.rules (c.args.number - 1) (Some c.args.rule) ∙ self.numbers;
+      counted = self.counted;
+      filed = filed_put self.rules self.lines (c.args.number - 1) (Some c.args.rule) good self.filed;
+    }

@@ -5,13 +5,10 @@ use Rattle.wall.proofs.wall.Wall.take_rule.Goals as goal
 
 pub invariant_of-self : goal.invariant_of-self
 invariant_of-self c =
-    let self = c.args.self.now in (
-      self.few,
-      (
-        self.sixteen,
-        (
-          length-set self.rules (c.args.number - 1) None ∙ self.numbers,
-          (self.counted, (filed_put self.rules self.lines (c.args.number - 1) None refl self.filed, tt)),
-        ),
-      ),
-    )
+    let self = c.args.self.now in record {
+      few = self.few;
+      sixteen = self.sixteen;
+      numbers = length-set self.rules (c.args.number - 1) None ∙ self.numbers;
+      counted = self.counted;
+      filed = filed_put self.rules self.lines (c.args.number - 1) None refl self.filed;
+    }
