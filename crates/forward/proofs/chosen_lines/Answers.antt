@@ -5,7 +5,7 @@ use Rattle.forward.proofs.chosen_lines.Goals as goal
 use Rattle.forward.proofs.chosen_lines.Goals.{then-is_chosen, else-is_chosen}
 
 pub loop-line-init : goal.loop-line-init
-loop-line-init c = gathered_none (λ k. ltb k c.args.n && not (is_open (get_or c.args.row.now k 0))) c.none_chosen.result c.none_chosen.ensures
+loop-line-init c = gathered_none (λ k. ltb k c.args.n && not (is_open (get_or c.args.row.now k 0))) c.none-chosen.result c.none-chosen.ensures
 
 pub loop-line-preserved : goal.loop-line-preserved
 loop-line-preserved c =
