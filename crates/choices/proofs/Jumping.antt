@@ -1,11 +1,11 @@
 -- The steps of a search: a full row, a line with nothing left, a jump, one option more.
-use Rattle.std.proofs.Common.{◌≡◌, ℕ, ◌<◌, ◌≤◌, Bool, true, false, not, ◌&&◌, ◌||◌, eqb, ltb, ◌⊎◌, List, length, get_or, take, set, replicate, Some, sym, refl, ap, ◌∙◌, subst, inl, inr, ⊎_elim, arith}
+use Rattle.std.proofs.Common.{◌≡◌, ℕ, ◌<◌, ◌≤◌, true, false, not, ◌&&◌, ◌||◌, eqb, ltb, ◌⊎◌, List, length, get_or, take, set, replicate, Some, sym, ap, ◌∙◌, subst, inl, inr, ⊎_elim, arith}
 use Rattle.std.proofs.lemmas.List.{ext_get_or, get_or-take, length-take-le, get_or-set_same, get_or-set_other, get_or-replicate}
 use Rattle.std.proofs.lemmas.Bool.{cases_eq, cases_Bool, both_ways, and_parts, and_from, or_cases, or_left, or_right, ltb-true, lt-ltb, eqb-true, eqb-false, eq-eqb, ne_eqb, not-true, not_from_false}
 use Rattle.masks.specs.declared.Mask.{Mask}
 use Rattle.masks.specs.Members.{has}
 use Rattle.masks.proofs.Members.{has_option}
-use Rattle.rows.specs.Rows.{is_row, is_open}
+use Rattle.rows.specs.Rows.{is_open}
 use Rattle.rows.proofs.Rows.{row_from, row_length}
 use Rattle.wall.specs.Rules.{no_options}
 use Rattle.forward.specs.Fits.{Rules, Leads, Leaves, Fits, Left, Chosen, Open}

@@ -1,13 +1,13 @@
 -- A choice put on its line, and the forward check after it.
-use Rattle.std.proofs.Common.{◌≡◌, ℕ, ◌<◌, ◌≤◌, Bool, true, false, ◌&&◌, eqb, ltb, leb, ◌⊎◌, List, length, get_or, set, sym, refl, ap, ◌∙◌, subst, inl, inr, ⊎_elim, arith}
+use Rattle.std.proofs.Common.{◌≡◌, ℕ, ◌<◌, ◌≤◌, true, false, ◌&&◌, eqb, ltb, leb, List, length, get_or, set, sym, ap, ◌∙◌, subst, ⊎_elim, arith}
 use Rattle.std.proofs.lemmas.List.{get_or-set_same, get_or-set_other}
 use Rattle.std.proofs.lemmas.Bool.{both_ways, and_parts, and_from, and_right, cases_Bool, leb-true, ltb-true, lt-ltb, eqb-true, ne_eqb}
 use Rattle.masks.specs.declared.Mask.{Mask}
 use Rattle.masks.specs.Members.{is_option, has}
 use Rattle.rows.specs.Rows.{is_open}
 use Rattle.wall.specs.Rules.{no_options}
-use Rattle.forward.specs.Fits.{Rules, Fits, Left, Chosen, Open}
-use Rattle.forward.specs.Causes.{AgreesOn, Spared, Swept, is_choice}
+use Rattle.forward.specs.Fits.{Rules, Chosen, Open}
+use Rattle.forward.specs.Causes.{Swept, is_choice}
 use Rattle.choices.specs.Steps.{Narrowed}
 
 -- an option is not open

@@ -1,9 +1,9 @@
 -- What holds on the way of a search: rows that are left, choices, and who is to blame.
-use Rattle.std.specs.Prelude.{◌≡◌, ℕ, ◌-◌, ◌<◌, ◌≤◌, true, false, ◌⊎◌, List, [], drop, set, replicate, Some, None, Option, ◌==◌, ◌≢◌, slice_index, slice_index_or, slice_set}
+use Rattle.std.specs.Prelude.{◌≡◌, ℕ, ◌-◌, ◌<◌, ◌≤◌, true, false, ◌⊎◌, List, [], drop, replicate, Some, None, Option, ◌==◌, ◌≢◌, slice_index, slice_index_or, slice_set}
 use Rattle.masks.specs.declared.Mask.{Mask}
 use Rattle.masks.specs.Members.{has}
 use Rattle.wall.specs.Rules.{no_options}
-use Rattle.forward.specs.Fits.{Rules, Leads, Leaves, Fits, Left, Chosen, Open}
+use Rattle.forward.specs.Fits.{Rules, Leads, Leaves, Fits, Left, Chosen}
 use Rattle.forward.specs.Causes.{AgreesOn, Spared, Dead, is_choice}
 use Rattle.choices.specs.declared.Level.{Level}
 

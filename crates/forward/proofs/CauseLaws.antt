@@ -1,12 +1,12 @@
 -- Who is to blame for what was taken.
-use Rattle.std.proofs.Common.{◌≡◌, ℕ, ◌<◌, ◌≤◌, Bool, true, false, not, ◌&&◌, ◌||◌, eqb, ltb, ◌⊎◌, List, get_or, take, sym, refl, ap, ◌∙◌, inl, inr, ⊎_elim, arith}
+use Rattle.std.proofs.Common.{◌≡◌, ℕ, ◌<◌, ◌≤◌, Bool, true, false, not, ◌&&◌, ◌||◌, eqb, ltb, List, get_or, take, sym, refl, ap, ◌∙◌, inl, inr, ⊎_elim, arith}
 use Rattle.std.proofs.lemmas.List.{get_or-take}
 use Rattle.std.proofs.lemmas.Bool.{cases_Bool, both_ways, and_parts, and_from, or_left, or_right, or_cases, not-true, not_from_false, ltb-true, lt-ltb, eqb-true, eq-eqb}
 use Rattle.masks.specs.declared.Mask.{Mask}
 use Rattle.masks.specs.Members.{is_option, has}
 use Rattle.rows.specs.Rows.{is_open, Agrees}
-use Rattle.forward.specs.Fits.{Rules, Leads, Leaves, Fits, Chosen, Open}
-use Rattle.forward.specs.Causes.{AgreesOn, Blame, Ruled, Settled, Shrunk}
+use Rattle.forward.specs.Fits.{Chosen}
+use Rattle.forward.specs.Causes.{AgreesOn, Blame, Settled}
 
 -- nothing was taken
 pub blame_none : (causes before after more rest : Mask) → ((k : ℕ) → has rest k ≡ (has before k && not (has after k))) → ((k : ℕ) → has rest k ≡ false) → Blame causes before after more causes

@@ -1,7 +1,7 @@
 -- The sweep over the open lines, way by way and line by line.
-use Rattle.std.proofs.Common.{◌≡◌, ℕ, ◌+◌, ◌<◌, ◌≤◌, Bool, true, false, not, ◌&&◌, ◌||◌, eqb, ltb, ◌⊎◌, List, [], length, get_or, set, Some, None, sym, refl, ap, ◌∙◌, inl, inr, ⊎_elim, arith}
+use Rattle.std.proofs.Common.{◌≡◌, ℕ, ◌+◌, ◌<◌, ◌≤◌, true, false, not, ◌&&◌, ◌||◌, eqb, ltb, List, [], length, get_or, set, Some, None, sym, refl, ap, ◌∙◌, inl, inr, ⊎_elim, arith}
 use Rattle.std.proofs.lemmas.List.{get_or-set_same, get_or-set_other, length-set}
-use Rattle.std.proofs.lemmas.Bool.{cases_eq, cases_lt, cases_Bool, both_ways, and_parts, and_from, and_right, eq-eqb, ne_eqb, eqb-true, lt-ltb, or_cases, or_left, or_right, not_from_false}
+use Rattle.std.proofs.lemmas.Bool.{cases_eq, cases_Bool, both_ways, and_parts, and_from, eq-eqb, ne_eqb, eqb-true, lt-ltb, or_cases, or_left, or_right, not_from_false}
 use Rattle.masks.specs.declared.Mask.{Mask}
 use Rattle.masks.specs.Members.{is_option, has}
 use Rattle.rows.specs.Rows.{is_open}
@@ -10,7 +10,7 @@ use Rattle.network.specs.declared.ways.WaySet.{WaySet}
 use Rattle.network.specs.Ways.{has_way, no_ways}
 use Rattle.network.proofs.WayLaws.{way_below}
 use Rattle.forward.specs.Fits.{Rules, Leads, Leaves, Fits, Left, Chosen, Open}
-use Rattle.forward.specs.Causes.{AgreesOn, Spared, Swept, Tied, Dead, Ruled, Settled, Shrunk}
+use Rattle.forward.specs.Causes.{AgreesOn, Swept, Dead, Ruled, Settled, Shrunk}
 
 -- what the ways that are done leave of the options of another line
 pub record Ruling (r : Rules) (line x other : ℕ) (old left : Mask) (todo : WaySet) : Type 0 where

@@ -1,5 +1,5 @@
 -- What the chosen entries of a row add up to.
-use Rattle.std.specs.Prelude.{◌≡◌, ℕ, zero, suc, ◌+◌, ◌≤◌, Bool, true, false, cond, ◌&&◌, List, [], get_or, ◌==◌, nat_le, nat_lt, slice_index, slice_index_or}
+use Rattle.std.specs.Prelude.{◌≡◌, ℕ, zero, suc, ◌+◌, Bool, cond, ◌&&◌, List, [], get_or, ◌==◌, nat_le, nat_lt, slice_index, slice_index_or}
 use Rattle.masks.specs.Members.{is_option}
 use Rattle.house.specs.Questions.{is_judged, is_open_line}
 

@@ -1,5 +1,5 @@
 -- The steps of the lexical search.
-use Rattle.std.proofs.Common.{◌≡◌, ℕ, ◌+◌, ◌<◌, ◌≤◌, Bool, true, false, not, ◌&&◌, eqb, ltb, leb, ◌⊎◌, List, length, get_or, take, set, replicate, Some, None, sym, refl, ap, ◌∙◌, subst, inl, inr, ⊎_elim, arith}
+use Rattle.std.proofs.Common.{◌≡◌, ℕ, ◌+◌, ◌<◌, ◌≤◌, Bool, true, false, ◌&&◌, eqb, ltb, leb, List, length, get_or, take, set, replicate, Some, sym, ap, ◌∙◌, subst, inl, inr, ⊎_elim, arith}
 use Rattle.std.proofs.lemmas.List.{ext_get_or, get_or-take, length-take-le, length-set, length-replicate, get_or-replicate, get_or-set_same}
 use Rattle.std.proofs.lemmas.Bool.{cases_eq, both_ways, and_from, lt-ltb, le-ltb, le-leb, not_from_false, eq-eqb}
 use Rattle.masks.specs.declared.Mask.{Mask}
@@ -7,15 +7,15 @@ use Rattle.masks.specs.Members.{is_option, has}
 use Rattle.masks.proofs.Members.{has_option}
 use Rattle.rows.specs.Rows.{is_row, is_open}
 use Rattle.rows.proofs.Rows.{row_from, row_length}
-use Rattle.ranking.specs.Orders.{is_line, is_under, is_asked, IsRanking, ArePlacesOf, RowBefore}
+use Rattle.ranking.specs.Orders.{is_line, is_under, is_asked, IsRanking, ArePlacesOf}
 use Rattle.places.specs.Entries.{FirstByPlace}
 use Rattle.wall.specs.Rules.{no_options}
 use Rattle.wall.specs.Plans.{First}
-use Rattle.forward.specs.Fits.{Rules, Fits, Left, Chosen, Open}
+use Rattle.forward.specs.Fits.{Rules, Left, Chosen, Open}
 use Rattle.forward.specs.Causes.{Tied, is_choice}
 use Rattle.start.specs.Starts.{Sound}
 use Rattle.choices.specs.declared.Level.{Level}
-use Rattle.choices.specs.Steps.{FitsWithin, Filled, Placed, Blamed, Blames, Tried, Conflict, Narrowed, Stuck}
+use Rattle.choices.specs.Steps.{FitsWithin, Filled, Tried, Narrowed, Stuck}
 use Rattle.choices.proofs.Jumping.{shares, full_fits, full_only, full_blames, here, off, blamed_now, conflict_of, dead_line, back, forth, placed, placed_none, blamed_none}
 use Rattle.choices.proofs.Levels.{rest_filled}
 use Rattle.choices.proofs.Narrowing.{option_chosen}

@@ -1,5 +1,5 @@
 -- The bits of a figure, one after another from the lowest. Assumes nothing.
-use Rattle.std.proofs.Common.{◌≡◌, ℕ, zero, suc, ◌+◌, ◌-◌, ◌*◌, ◌/◌, ◌%◌, ◌^◌, ◌<◌, ◌≤◌, min, max, Bool, true, false, cond, not, ◌&&◌, ◌||◌, eqb, ltb, ◌⊎◌, sym, refl, ap, ◌∙◌, inl, inr, ⊎_elim, pow-suc, arith}
+use Rattle.std.proofs.Common.{◌≡◌, ℕ, zero, suc, ◌+◌, ◌-◌, ◌/◌, ◌%◌, ◌^◌, ◌<◌, ◌≤◌, min, max, Bool, true, false, cond, not, ◌&&◌, ◌||◌, eqb, ltb, sym, refl, ap, ◌∙◌, ⊎_elim, pow-suc, arith}
 use lib.Bits.{bit_and, bit_or, bit_xor, and_step, and_shr, or_step, or_shr, xor_add_and, xor_shr}
 use lib.Count.{ones, ones_step, count_trailing_zeros, under}
 use Rattle.std.proofs.lemmas.Nat.{pow_pos, shr-shr}

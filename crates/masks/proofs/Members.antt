@@ -1,11 +1,11 @@
 -- The laws of sets of options. Assumes nothing.
-use Rattle.std.proofs.Common.{◌≡◌, ℕ, zero, suc, ◌+◌, ◌-◌, ◌*◌, ◌/◌, ◌%◌, ◌^◌, ◌<◌, ◌≤◌, Bool, true, false, cond, not, ◌&&◌, ◌||◌, eqb, ltb, ◌⊎◌, Decides, sym, refl, ap, ◌∙◌, inl, inr, ⊎_elim, arith}
+use Rattle.std.proofs.Common.{◌≡◌, ℕ, zero, suc, ◌-◌, ◌^◌, ◌<◌, ◌≤◌, Bool, true, false, cond, not, ◌&&◌, ◌||◌, eqb, ltb, ◌⊎◌, Decides, sym, refl, ap, ◌∙◌, inl, inr, ⊎_elim, arith}
 use lib.Bits.{bit_and, bit_or, bit_xor}
 use lib.Count.{ones, count_trailing_zeros}
 use Rattle.std.proofs.lemmas.Bool.Decides.{nat_tests}
 use Rattle.std.proofs.lemmas.Bool.{cases_eq, cases_lt, cases_Bool, both_ways, and_parts, and_from, and_right, ltb-true, lt-ltb, le-ltb, eq-eqb, eqb-true, not_from_true}
 use Rattle.masks.specs.declared.Mask.{Mask}
-use Rattle.masks.specs.Members.{is_option, bit_of, has, how_many, size, SameMembers}
+use Rattle.masks.specs.Members.{is_option, bit_of, has, size, SameMembers}
 use Rattle.masks.proofs.Bits.{bit_of_none, bit_of_pow, bit_of_ones, bit_of_and, bit_of_or, bit_of_minus, bits_same, ones_bits, zeros_bits, bit_past}
 use Rattle.masks.proofs.Counts.{how_many_same, how_many_less}
 

@@ -1,13 +1,13 @@
 -- The network of a wall's rules, one rule after another.
-use Rattle.std.proofs.Common.{◌≡◌, ℕ, ◌+◌, ◌-◌, ◌<◌, ◌≤◌, Bool, true, false, cond, not, ◌&&◌, ◌||◌, eqb, ltb, leb, ◌⊎◌, List, [], length, get_or, take, set, replicate, Some, None, Option, sym, refl, ap, ◌∙◌, ap₂, inl, inr, ⊎_elim, arith}
+use Rattle.std.proofs.Common.{◌≡◌, ℕ, ◌+◌, ◌-◌, ◌<◌, ◌≤◌, Bool, true, false, cond, not, ◌&&◌, ◌||◌, eqb, ltb, leb, List, [], length, get_or, take, set, replicate, Some, None, Option, sym, refl, ap, ◌∙◌, ap₂, ⊎_elim, arith}
 use Rattle.std.proofs.lemmas.List.{get_or-set_same, get_or-set_other, get_or-replicate, get_or-take, get_or_past, length-set, length-take}
 use Rattle.std.proofs.lemmas.Bool.Decides.{nat_tests}
-use Rattle.std.proofs.lemmas.Bool.{cases_eq, cases_lt, cases_Bool, eq-eqb, ne_eqb, eqb-true, lt-ltb, le-ltb, and_parts, and_left, and_right, and_from, cond-true, cond-false, ltb-true, le-leb}
+use Rattle.std.proofs.lemmas.Bool.{cases_eq, cases_lt, cases_Bool, eq-eqb, ne_eqb, lt-ltb, le-ltb, and_parts, and_right, and_from, cond-true, cond-false, ltb-true, le-leb}
 use Rattle.masks.specs.declared.Mask.{Mask}
 use Rattle.masks.specs.Members.{is_option, has}
 use Rattle.masks.proofs.Members.{has_option}
 use Rattle.wall.specs.declared.rule.PairRule.{PairRule}
-use Rattle.wall.specs.Rules.{no_options, allows, is_number, joins, is_filed}
+use Rattle.wall.specs.Rules.{no_options, is_number, joins, is_filed}
 use Rattle.network.specs.declared.ways.WaySet.{WaySet}
 use Rattle.network.specs.Ways.{has_way, no_ways, is_from, allows_at, leads, permits, IsNetwork, Marked, RulePut}
 

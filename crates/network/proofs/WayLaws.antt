@@ -1,9 +1,9 @@
 -- The laws of sets of ways. Assumes nothing.
-use Rattle.std.proofs.Common.{◌≡◌, ℕ, zero, suc, ◌+◌, ◌-◌, ◌*◌, ◌%◌, ◌^◌, ◌<◌, ◌≤◌, Bool, true, false, cond, not, ◌&&◌, ◌||◌, eqb, ltb, ◌⊎◌, sym, refl, ap, ◌∙◌, ⊎_elim, arith}
+use Rattle.std.proofs.Common.{◌≡◌, ℕ, ◌*◌, ◌%◌, ◌^◌, ◌<◌, ◌≤◌, Bool, true, false, not, ◌&&◌, ◌||◌, eqb, ltb, sym, refl, ap, ◌∙◌, ⊎_elim, arith}
 use lib.Bits.{bit_and, bit_or, bit_xor}
 use lib.Count.{count_trailing_zeros, trailing_of_zero}
 use Rattle.std.proofs.lemmas.Nat.{one_shl}
-use Rattle.std.proofs.lemmas.Bool.{cases_eq, cases_lt, cases_Bool, and_parts, and_from, and_left, and_right, ltb-true, lt-ltb, le-ltb, eq-eqb, not_from_true}
+use Rattle.std.proofs.lemmas.Bool.{cases_eq, cases_lt, and_parts, and_from, and_left, and_right, ltb-true, lt-ltb, le-ltb, eq-eqb, not_from_true}
 use Rattle.masks.specs.Members.{bit_of, how_many}
 use Rattle.masks.proofs.Bits.{bit_of_none, bit_of_pow, bit_of_or, bit_of_minus, zeros_bits}
 use Rattle.masks.proofs.Counts.{how_many_less}

@@ -1,8 +1,8 @@
 -- The first of what a loop has seen of a group, under the laws of a strict total order.
-use Rattle.std.proofs.Common.{◌≡◌, ℕ, ◌+◌, ◌<◌, ◌≤◌, Bool, true, false, not, eqb, ◌⊎◌, List, [], ◌∷◌, length, get_or, Decides, sym, refl, ap, ◌∙◌, ⊎_elim, arith}
+use Rattle.std.proofs.Common.{◌≡◌, ℕ, ◌+◌, ◌<◌, ◌≤◌, Bool, true, false, not, eqb, List, [], ◌∷◌, length, get_or, Decides, ⊎_elim, arith}
 use Rattle.std.proofs.lemmas.List.{get_or_read}
-use Rattle.std.proofs.lemmas.Bool.{cases_eq, cases_Bool, cases_lt, cases_order, both_ways, eq-eqb, eqb-true}
-use Rattle.order.specs.Firsts.{FirstAt, FirstOf}
+use Rattle.std.proofs.lemmas.Bool.{cases_eq, cases_lt, cases_order, both_ways, eq-eqb, eqb-true}
+use Rattle.order.specs.Firsts.{FirstAt}
 use Rattle.order.proofs.Laws.{asym, ahead}
 
 -- index f has the first of the entries below n

@@ -1,5 +1,5 @@
 -- What follows from the laws of a strict total order.
-use Rattle.std.proofs.Common.{◌≡◌, Bool, true, false, not, ◌⊎◌, sym, ap, ◌∙◌, ⊎_elim}
+use Rattle.std.proofs.Common.{◌≡◌, Bool, true, false, not, sym, ap, ◌∙◌, ⊎_elim}
 use Rattle.std.proofs.lemmas.Bool.{cases_Bool, both_ways}
 
 module _ {X : Type 0} (before : X → X → Bool) (never : (a : X) → before a a ≡ false) (one : (a b : X) → (a ≡ b → ⊥) → before a b ≡ not (before b a))

@@ -1,7 +1,7 @@
 -- Lists of entries with a strict total order are in strict total order themselves, by the first place where they differ.
 use Rattle.std.proofs.Common.{◌≡◌, ℕ, zero, suc, ◌+◌, ◌<◌, ◌≤◌, Bool, true, false, not, ◌&&◌, ◌||◌, ◌⊎◌, List, [], ◌∷◌, length, get_or, take, drop, sym, refl, ap, ◌∙◌, ap₂, inl, inr, ⊎_elim, arith}
 use Rattle.std.proofs.lemmas.List.{drop_more, drop_all}
-use Rattle.std.proofs.lemmas.Bool.{cases_Bool, both_ways, and_parts, and_from, and_left, or_left, or_right, or_cases, or_parts, or_from, not-true, not_from_false, not_from_true}
+use Rattle.std.proofs.lemmas.Bool.{cases_Bool, both_ways, and_parts, and_left, or_left, or_cases, or_from, not-true, not_from_true}
 use Rattle.order.specs.Firsts.{list_before}
 use Rattle.order.proofs.Laws.{asym, ahead, behind}
 

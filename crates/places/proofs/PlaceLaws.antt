@@ -1,10 +1,10 @@
 -- Comparing by places is comparing by the ranking.
-use Rattle.std.proofs.Common.{◌≡◌, ℕ, zero, suc, ◌+◌, ◌<◌, ◌≤◌, Bool, true, false, not, ◌&&◌, ◌||◌, eqb, ltb, leb, ◌⊎◌, List, [], length, get_or, take, Decides, sym, refl, ap, ◌∙◌, ap₂, ⊎_elim, arith}
-use Rattle.std.proofs.lemmas.List.{same_lists, get_or-take, length-take-le, take-take, ext_get_or}
+use Rattle.std.proofs.Common.{◌≡◌, ℕ, ◌<◌, ◌≤◌, Bool, true, false, not, ◌&&◌, ◌||◌, eqb, ltb, leb, List, length, get_or, take, Decides, sym, ap, ◌∙◌, ap₂, ⊎_elim, arith}
+use Rattle.std.proofs.lemmas.List.{get_or-take, length-take-le, take-take, ext_get_or}
 use Rattle.std.proofs.lemmas.Bool.Decides.{nat_tests}
-use Rattle.std.proofs.lemmas.Bool.{cases_eq, cases_Bool, cases_lt, both_ways, and_parts, and_from, leb-true, le-leb, lt-ltb}
+use Rattle.std.proofs.lemmas.Bool.{cases_eq, cases_Bool, cases_lt, both_ways, and_parts, and_from, leb-true, le-leb}
 use Rattle.masks.specs.declared.Mask.{Mask}
-use Rattle.masks.specs.Members.{is_option, has, how_many}
+use Rattle.masks.specs.Members.{has}
 use Rattle.masks.proofs.Members.{has_option}
 use Rattle.masks.proofs.Counts.{how_many_less}
 use Rattle.rows.specs.Rows.{is_row}

@@ -1,12 +1,12 @@
 -- The steps of filling a list and of finding the places in it. Assumes nothing.
-use Rattle.std.specs.Prelude.{◌≡◌, ℕ, zero, suc, ◌+◌, ◌<◌, ◌≤◌, Bool, true, false, ◌&&◌, ◌||◌, ◌⊎◌, List, [], ◌∷◌, ◌++◌, length, take, drop, ◌==◌, ◌≢◌, nat_eq, slice_index, slice_index_or, slice_set, refl}
+use Rattle.std.specs.Prelude.{◌≡◌, ℕ, zero, suc, ◌+◌, ◌<◌, ◌≤◌, Bool, true, false, ◌&&◌, ◌||◌, List, [], ◌∷◌, ◌++◌, length, take, drop, ◌==◌, ◌≢◌, nat_eq, slice_index, slice_index_or, slice_set, refl}
 use Rattle.std.proofs.Common.{sym, ap, ◌∙◌, append_assoc, ⊎_elim, arith, length-append}
-use Rattle.std.proofs.lemmas.List.{take-append-drop, drop_more, take_more, take_more_set, take_all, length-take-le, get_or-set_same, get_or-set_other, length-set, append-nil}
+use Rattle.std.proofs.lemmas.List.{take-append-drop, drop_more, take_more, take_more_set, take_all, get_or-set_same, get_or-set_other}
 use Rattle.std.proofs.lemmas.Bool.{cases_Bool, cases_lt, cases_eq, both_ways, lt-ltb, ne_eqb, eq-eqb, eqb-true, and_right, and_parts, and_from}
 use Rattle.masks.specs.declared.Mask.{Mask}
 use Rattle.masks.specs.Members.{is_option, has}
 use Rattle.ranking.specs.Lists.{stands, is_list, is_permutation, missing, filled, place_in, are_places}
-use Rattle.ranking.specs.ListLaws.{stands_push, list_push, list_new, list_short, whole, room, missing_old, missing_new, missing_none, list_parts}
+use Rattle.ranking.specs.ListLaws.{stands_push, list_push, list_new, list_short, whole, missing_old, missing_new}
 use Rattle.ranking.specs.Permutations.{permutation_length, permutation_list, permutation_stands, option_at, place_at, at_place}
 
 -- what would be false of a list

@@ -1,10 +1,10 @@
 -- The laws of lists in which no option is missing, and of places in them. Assumes nothing.
-use Rattle.std.specs.Prelude.{◌≡◌, ℕ, zero, suc, ◌+◌, ◌<◌, ◌≤◌, Bool, true, false, cond, not, ◌&&◌, ◌||◌, ◌⊎◌, List, [], ◌∷◌, ◌++◌, length, get_or, ◌==◌, nat_eq, slice_index, slice_index_or, refl}
-use Rattle.std.proofs.Common.{sym, ap, ◌∙◌, append_assoc, ⊎_elim, add-one, arith, length-append}
+use Rattle.std.specs.Prelude.{◌≡◌, ℕ, zero, suc, ◌<◌, ◌≤◌, Bool, true, false, cond, List, [], ◌∷◌, ◌++◌, length, get_or, ◌==◌, nat_eq, slice_index, slice_index_or, refl}
+use Rattle.std.proofs.Common.{sym, ap, ◌∙◌, append_assoc, ⊎_elim, arith, length-append}
 use Rattle.std.proofs.lemmas.List.{append-nil}
-use Rattle.std.proofs.lemmas.Bool.{cases_eq, cases_Bool, eq-eqb, ne_eqb, eqb-true, and_parts, and_from, or_parts, or_from, or_cases, both_ways, cond-true, cond-false}
+use Rattle.std.proofs.lemmas.Bool.{cases_Bool, eq-eqb, ne_eqb, eqb-true, and_parts, and_from, or_from, or_cases, both_ways, cond-true, cond-false}
 use Rattle.ranking.specs.Lists.{stands, is_list, is_permutation, missing, filled, place_in}
-use Rattle.ranking.specs.ListLaws.{stands_append, stands_push, stands_none, stands_at, list_parts, list_option, list_push, whole, room, missing_old, missing_new, missing_none}
+use Rattle.ranking.specs.ListLaws.{stands_append, stands_push, stands_none, stands_at, list_parts, list_option, list_push, whole, room}
 
 -- what is lacked below n is below n
 stands_missing : (n o : ℕ) (xs : List ℕ) → n ≤ o → stands o (missing n xs) ≡ false

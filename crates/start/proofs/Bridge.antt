@@ -1,7 +1,7 @@
 -- Rule-keeping rows of a wall are the rows that fit its network and have free options.
-use Rattle.std.proofs.Common.{◌≡◌, ℕ, ◌+◌, ◌-◌, ◌<◌, ◌≤◌, Bool, true, false, cond, not, ◌&&◌, eqb, ltb, leb, ◌⊎◌, List, [], length, get_or, take, Some, None, Option, sym, refl, ap, ◌∙◌, inl, inr, ⊎_elim, arith}
+use Rattle.std.proofs.Common.{◌≡◌, ℕ, ◌-◌, ◌<◌, ◌≤◌, Bool, true, false, not, ◌&&◌, eqb, ltb, leb, List, [], length, get_or, take, Some, None, Option, sym, refl, ap, ◌∙◌, ⊎_elim, arith}
 use Rattle.std.proofs.lemmas.List.{get_or-take, get_or_past, length-take-le}
-use Rattle.std.proofs.lemmas.Bool.{cases_lt, cases_Bool, both_ways, and_parts, and_from, ltb-true, lt-ltb, le-ltb, leb-true, eqb-true, eq-eqb, not-true, not_from_false, cond-true, cond-false}
+use Rattle.std.proofs.lemmas.Bool.{cases_lt, both_ways, and_parts, and_from, ltb-true, lt-ltb, le-ltb, leb-true, eqb-true, eq-eqb, not-true, not_from_false, cond-true, cond-false}
 use Rattle.masks.specs.declared.Mask.{Mask}
 use Rattle.masks.specs.Members.{is_option, has}
 use Rattle.rows.specs.Rows.{is_row}
@@ -9,13 +9,12 @@ use Rattle.rows.proofs.Rows.{row_from, row_length, row_option}
 use Rattle.wall.specs.declared.bars.Bars.{Bars}
 use Rattle.wall.specs.declared.rule.PairRule.{PairRule}
 use Rattle.wall.specs.declared.wall.Wall.{Wall}
-use Rattle.wall.specs.Rules.{no_options, is_count, is_filed, joins, allows, is_allowed, is_barred}
-use Rattle.wall.specs.Plans.{Task, lines_of, task_of, Keeps}
+use Rattle.wall.specs.Rules.{no_options, is_filed, allows, is_allowed, is_barred}
+use Rattle.wall.specs.Plans.{Task, task_of, Keeps}
 use Rattle.network.specs.declared.Network.{Network}
-use Rattle.network.specs.declared.ways.WaySet.{WaySet}
 use Rattle.network.specs.Ways.{has_way, no_ways, is_from, allows_at, leads, permits, IsNetwork}
 use Rattle.forward.specs.Fits.{Rules, Leads, Leaves, Fits, rules_of}
-use Rattle.start.specs.Starts.{is_free, AreFree}
+use Rattle.start.specs.Starts.{AreFree}
 
 -- a rule that goes from one line to another allows what a row has there
 from_allows : (rule : Option PairRule) (β : List ℕ) (line other : ℕ) → is_from rule line other ≡ true → is_allowed rule β ≡ true → allows_at rule (get_or β line 0) (get_or β other 0) ≡ true

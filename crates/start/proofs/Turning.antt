@@ -1,17 +1,14 @@
 -- A pair rule can be followed either way, and joins two lines.
-use Rattle.std.proofs.Common.{◌≡◌, ℕ, ◌+◌, ◌-◌, ◌<◌, ◌≤◌, Bool, true, false, cond, not, ◌&&◌, ◌||◌, eqb, ltb, ◌⊎◌, List, [], get_or, Some, None, Option, sym, refl, ap, ◌∙◌, inl, inr, ⊎_elim, arith}
-use Rattle.std.proofs.lemmas.Bool.{cases_lt, cases_Bool, both_ways, and_parts, and_from, or_cases, ltb-true, lt-ltb, le-ltb, eqb-true, eq-eqb, not-true, not_from_false, cond-true, cond-false}
-use Rattle.masks.specs.declared.Mask.{Mask}
+use Rattle.std.proofs.Common.{◌≡◌, ℕ, ◌+◌, ◌-◌, ◌<◌, ◌≤◌, Bool, true, false, cond, not, ◌&&◌, ◌||◌, eqb, ltb, List, [], get_or, Some, None, Option, sym, refl, ap, ◌∙◌, ⊎_elim, arith}
+use Rattle.std.proofs.lemmas.Bool.{cases_lt, both_ways, and_parts, and_from, ltb-true, lt-ltb, le-ltb, eqb-true, eq-eqb, not-true, cond-true, cond-false}
 use Rattle.masks.specs.Members.{is_option, has}
-use Rattle.masks.proofs.Members.{has_option}
 use Rattle.wall.specs.declared.rule.PairRule.{PairRule}
 use Rattle.wall.specs.declared.wall.Wall.{Wall}
 use Rattle.wall.specs.Rules.{no_options, is_filed}
 use Rattle.network.specs.declared.Network.{Network}
-use Rattle.network.specs.declared.ways.WaySet.{WaySet}
 use Rattle.network.proofs.WayLaws.{way_below}
 use Rattle.network.specs.Ways.{has_way, no_ways, is_from, allows_at, leads, permits, IsNetwork}
-use Rattle.forward.specs.Fits.{Rules, Leads, Leaves, rules_of}
+use Rattle.forward.specs.Fits.{rules_of}
 use Rattle.start.specs.Networks.{turned, is_apart, leads_back, leaves_back}
 use Rattle.start.specs.declared.problem.Problem.{Problem}
 use Rattle.start.specs.Starts.{Sound}

@@ -1,5 +1,5 @@
 -- What a search begins with: the options of each line that are not barred.
-use Rattle.std.specs.Prelude.{◌≡◌, ℕ, ◌<◌, ◌≤◌, Bool, true, false, not, ◌&&◌, List, nat_lt, slice_index, slice_index_or}
+use Rattle.std.specs.Prelude.{◌≡◌, ℕ, ◌<◌, ◌≤◌, Bool, not, ◌&&◌, List, nat_lt, slice_index, slice_index_or}
 use Rattle.masks.specs.declared.Mask.{Mask}
 use Rattle.masks.specs.Members.{is_option, has}
 use Rattle.wall.specs.declared.bars.Bars.{Bars}

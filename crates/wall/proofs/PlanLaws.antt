@@ -1,7 +1,7 @@
 -- The best plan is unique, a plan has one place, and no two plans share one.
-use Rattle.std.proofs.Common.{◌≡◌, ℕ, zero, suc, ◌+◌, ◌<◌, ◌≤◌, Bool, true, false, ◌⊎◌, List, [], ◌∷◌, length, get_or, sym, refl, ap, ◌∙◌, inl, inr, ⊎_elim, arith}
+use Rattle.std.proofs.Common.{◌≡◌, ℕ, zero, suc, ◌<◌, ◌≤◌, true, ◌⊎◌, List, [], ◌∷◌, length, get_or, sym, refl, ap, ◌∙◌, inl, inr, ⊎_elim, arith}
 use Rattle.rows.specs.Rows.{is_row}
-use Rattle.rows.proofs.Rows.{row_from, row_length}
+use Rattle.rows.proofs.Rows.{row_from}
 use Rattle.ranking.specs.Orders.{IsRanking, RowBefore}
 use Rattle.wall.specs.Plans.{Task, lines_of, Keeps, Best, Place}
 use Rattle.wall.specs.Theorems.{Proper, OneBest, OnePlace, OwnPlace}

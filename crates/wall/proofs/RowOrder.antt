@@ -1,12 +1,12 @@
 -- Going before is a strict total order of the rows of a wall, for every ranking.
-use Rattle.std.proofs.Common.{◌≡◌, ℕ, zero, suc, ◌+◌, ◌<◌, ◌≤◌, Bool, true, false, not, ◌⊎◌, List, [], length, get_or, take, sym, refl, ap, ◌∙◌, inl, inr, ⊎_elim, add-one, arith}
+use Rattle.std.proofs.Common.{◌≡◌, ℕ, zero, suc, ◌<◌, ◌≤◌, Bool, true, false, not, ◌⊎◌, List, length, get_or, take, sym, refl, ap, ◌∙◌, inl, inr, ⊎_elim, add-one, arith}
 use Rattle.std.proofs.lemmas.List.{get_or-take, take-take, take_all, take_more_same}
 use Rattle.std.proofs.lemmas.Bool.{cases_eq, cases_Bool, cases_order, both_ways}
 use Rattle.rows.specs.Rows.{is_row}
 use Rattle.rows.proofs.Rows.{row_length, row_option, row_take}
-use Rattle.ranking.specs.Orders.{is_under, is_asked, IsRanking, RowBefore}
+use Rattle.ranking.specs.Orders.{IsRanking, RowBefore}
 use Rattle.ranking.specs.Ranks.{asked_from, under_from}
-use Rattle.wall.specs.Theorems.{StrictTotal, RowsInOrder}
+use Rattle.wall.specs.Theorems.{RowsInOrder}
 
 -- the same entries above a line, and on every line above that
 pub same_entry : (α β : List ℕ) (m k : ℕ) → take m α ≡ take m β → k < m → get_or α k 0 ≡ get_or β k 0

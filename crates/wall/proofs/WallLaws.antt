@@ -1,12 +1,12 @@
 -- What keeps a wall well formed.
-use Rattle.std.proofs.Common.{◌≡◌, ℕ, ◌+◌, ◌-◌, ◌<◌, ◌≤◌, Bool, true, false, not, ◌&&◌, eqb, ltb, ◌⊎◌, List, length, get_or, set, replicate, Some, None, Option, sym, refl, ap, ◌∙◌, ⊎_elim, arith}
+use Rattle.std.proofs.Common.{◌≡◌, ℕ, ◌+◌, ◌<◌, ◌≤◌, true, false, not, ◌&&◌, eqb, ltb, List, length, get_or, set, replicate, Some, None, Option, refl, ⊎_elim, arith}
 use Rattle.std.proofs.lemmas.List.{get_or-set_same, get_or-set_other, set_past, get_or_past, get_or-replicate}
 use Rattle.std.proofs.lemmas.Bool.{cases_eq, cases_lt, and_parts, and_from, ltb-true, lt-ltb}
 use Rattle.masks.specs.declared.Mask.{Mask}
 use Rattle.masks.specs.Members.{has}
 use Rattle.masks.proofs.Members.{has_none}
 use Rattle.wall.specs.declared.rule.PairRule.{PairRule}
-use Rattle.wall.specs.Rules.{is_count, is_filed, joins, no_options, is_barred}
+use Rattle.wall.specs.Rules.{is_count, is_filed, no_options, is_barred}
 
 -- one line more
 pub counted_more : (counts : List ℕ) (n count : ℕ) → n < length counts → is_count count ≡ true → ((line : ℕ) → line < n → is_count (get_or counts line 0) ≡ true)

@@ -1,14 +1,12 @@
 -- The steps of planning line by line.
-use Rattle.std.proofs.Common.{◌≡◌, ℕ, ◌+◌, ◌<◌, ◌≤◌, Bool, true, false, ◌&&◌, eqb, ltb, ◌⊎◌, List, [], ◌∷◌, ◌++◌, length, get_or, take, set, Some, sym, refl, ap, ◌∙◌, ⊎_elim, arith}
-use Rattle.std.proofs.lemmas.List.{get_or-take, get_or-set_same, get_or-set_other, length-take-le, length-set, take-set-le, take_more_set}
-use Rattle.std.proofs.lemmas.Bool.{cases_eq, cases_lt, and_parts, ltb-true, both_ways, lt-ltb, and_from}
+use Rattle.std.proofs.Common.{◌≡◌, ℕ, ◌+◌, ◌<◌, ◌≤◌, Bool, true, false, ◌&&◌, ltb, List, length, get_or, take, set, Some, sym, refl, ap, ◌∙◌, ⊎_elim, arith}
+use Rattle.std.proofs.lemmas.List.{get_or-take, get_or-set_same, get_or-set_other, length-take-le, length-set, take-set-le}
+use Rattle.std.proofs.lemmas.Bool.{cases_eq, both_ways, lt-ltb, and_from}
 use Rattle.masks.specs.declared.Mask.{Mask}
 use Rattle.masks.specs.Members.{is_option, has}
-use Rattle.masks.proofs.Members.{has_option}
 use Rattle.rows.specs.Rows.{is_row}
-use Rattle.rows.proofs.Rows.{row_from, row_option, row_length}
+use Rattle.rows.proofs.Rows.{row_from, row_option}
 use Rattle.places.specs.Entries.{BestOption}
-use Rattle.ranking.specs.Orders.{is_under}
 use Rattle.wallplan.specs.Plans.{options_of}
 
 module _ (before : ℕ → List ℕ → ℕ → ℕ → Bool) (counts row : List ℕ) (line o : ℕ) (l : line < 3) (n : length row ≡ 3) where

@@ -1,5 +1,5 @@
 -- The best row of a wall of three lines on which no options exclude each other.
-use Rattle.std.specs.Prelude.{◌≡◌, ℕ, ◌<◌, Bool, ◌&&◌, List, length, take, Some, None, Option, nat_lt, slice_index}
+use Rattle.std.specs.Prelude.{◌≡◌, ℕ, ◌<◌, Bool, ◌&&◌, List, take, Some, None, Option, nat_lt, slice_index}
 use Rattle.masks.specs.Members.{is_option}
 use Rattle.places.specs.Entries.{BestOption}
 

@@ -1,4 +1,3 @@
-use Rattle.std.proofs.Common.{sym, ◌∙◌}
 use Rattle.forward.proofs.CauseLaws.{blame_none, blame_more}
 use Rattle.forward.proofs.blame.Goals as goal
 

@@ -1,12 +1,11 @@
-use Rattle.std.proofs.Common.{◌≡◌, ℕ, ◌<◌, true, false, List, length, get_or, set, sym, refl, ap, ◌∙◌, arith}
+use Rattle.std.proofs.Common.{ℕ, List, get_or, set, ap, ◌∙◌, arith}
 use Rattle.std.proofs.lemmas.Bool.{eq-eqb, ne_eqb, both_ways}
 use Rattle.masks.specs.declared.Mask.{Mask}
-use Rattle.masks.specs.Members.{has}
 use Rattle.masks.proofs.Members.{some_option}
 use Rattle.wall.specs.Rules.{no_options}
 use Rattle.forward.specs.Fits.{Rules, rules_of}
-use Rattle.forward.specs.Causes.{Shrunk, Swept, Dead}
-use Rattle.forward.proofs.Sweeping.{Ruling, SweptTo, ruling_none, ruling_more, ruling_all, shrunk_settled, shrunk_empty, swept_none, swept_chosen, swept_open, swept_more, swept_dead, swept_all}
+use Rattle.forward.specs.Causes.{Shrunk}
+use Rattle.forward.proofs.Sweeping.{SweptTo, ruling_more, ruling_all, shrunk_settled, shrunk_empty, swept_chosen, swept_open, swept_more, swept_dead}
 use Rattle.forward.proofs.sweep.Goals as goal
 use Rattle.forward.proofs.sweep.Goals.{then-row-other+in_default+else-is_empty-2, else-row-other}
 

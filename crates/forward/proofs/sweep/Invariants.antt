@@ -1,4 +1,4 @@
-use Rattle.std.proofs.Common.{◌≡◌, ℕ, ◌<◌, length, get_or}
+use Rattle.std.proofs.Common.{◌≡◌}
 use Rattle.masks.specs.Members.{how_many}
 use Rattle.network.specs.Ways.{has_way}
 use Rattle.forward.specs.Fits.{rules_of}

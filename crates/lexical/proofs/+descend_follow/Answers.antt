@@ -1,8 +1,7 @@
-use Rattle.std.proofs.Common.{◌≡◌, ℕ, ◌+◌, ◌-◌, ◌<◌, true, false, List, length, get_or, take, set, sym, refl, ap, ◌∙◌, subst, arith}
+use Rattle.std.proofs.Common.{◌≡◌, ℕ, ◌+◌, ◌-◌, get_or, take, set, sym, refl, ap, ◌∙◌, subst, arith}
 use Rattle.std.proofs.lemmas.List.{get_or-set_same}
 use Rattle.std.proofs.lemmas.Bool.{and_parts}
-use Rattle.masks.specs.Members.{has}
-use Rattle.masks.proofs.Members.{has_option, size_without}
+use Rattle.masks.proofs.Members.{has_option}
 use Rattle.forward.specs.Fits.{rules_of, Left}
 use Rattle.choices.specs.declared.Level.{Level}
 use Rattle.start.proofs.Turning.{sound}
@@ -21,8 +20,8 @@ descend-returns-then-depth-problem g t c = record {
   unmoved = λ k l. refl;
 }
 
-pub descend_follow-requires : goal.descend_follow-requires
-descend_follow-requires g t c κs within =
+pub descend-follow-requires : goal.descend-follow-requires
+descend-follow-requires g t c κs within =
     let same = sym (c.loop-option.invariant.2 c.args.depth (omega arith)) in (
       omega arith,
       (

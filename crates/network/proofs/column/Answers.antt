@@ -1,4 +1,4 @@
-use Rattle.std.proofs.Common.{◌≡◌, ℕ, Bool, get_or, sym, ap, ◌∙◌, arith}
+use Rattle.std.proofs.Common.{◌≡◌, ℕ, Bool, get_or, sym, arith}
 use Rattle.masks.specs.Members.{has}
 use Rattle.masks.proofs.Gathering.{gathers, passes_by, gathered_none, gathered_all}
 use Rattle.wall.specs.Rules.{no_options}

@@ -1,4 +1,4 @@
-use Rattle.std.proofs.Common.{◌-◌, sym, ◌∙◌, arith}
+use Rattle.std.proofs.Common.{◌-◌, sym, arith}
 use Rattle.places.proofs.PlaceLaws.{group_best}
 use Rattle.places.proofs.best_option.Goals as goal
 

@@ -1,4 +1,4 @@
-use Rattle.std.proofs.Common.{◌≡◌, ℕ, ◌+◌, ◌≤◌, Bool, true, false, sym, ap, ◌∙◌, arith, rules}
+use Rattle.std.proofs.Common.{ℕ, ◌+◌, Bool, sym, ap, ◌∙◌, rules}
 use Rattle.masks.proofs.Counts.{how_many_le, how_many_in, how_many_out, how_many_zero}
 use Rattle.places.proofs.place_of.Goals as goal
 use Rattle.places.proofs.place_of.Goals.{then-goes_before, else-goes_before}

@@ -1,6 +1,5 @@
-use Rattle.std.proofs.Common.{◌≡◌, ℕ, ◌≤◌, set, sym, ap, ◌∙◌, arith}
-use Rattle.places.specs.Entries.{RanksOptions, ranked}
-use Rattle.places.proofs.GroupLaws.{below, group_out, group_in, group_all}
+use Rattle.std.proofs.Common.{◌≡◌, ℕ, set, sym, ap, ◌∙◌, arith}
+use Rattle.places.proofs.GroupLaws.{group_out, group_in, group_all}
 use Rattle.places.proofs.ranked_options.Goals as goal
 use Rattle.places.proofs.ranked_options.Goals.{then-has, else-has}
 

@@ -1,4 +1,3 @@
-use Rattle.std.proofs.Common.{true, sym}
 use Rattle.order.proofs.Firsts.{second_first}
 use Rattle.order.specs.Firsts.{list_before}
 use Rattle.places.specs.declared.entries.RankedRow.{RankedRow}

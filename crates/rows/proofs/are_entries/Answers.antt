@@ -1,4 +1,4 @@
-use Rattle.std.proofs.Common.{◌≡◌, sym, ◌∙◌}
+use Rattle.std.proofs.Common.{sym, ◌∙◌}
 use Rattle.rows.specs.Rows.{entry_test}
 use Rattle.rows.proofs.Rows.{every_stops, every_goes, every_end}
 use Rattle.rows.proofs.are_entries.Goals as goal

@@ -1,8 +1,8 @@
-use Rattle.std.proofs.Common.{◌≡◌, ℕ, ◌-◌, ◌<◌, true, List, [], length, get_or, take, Some, refl, ap, ◌∙◌, arith}
+use Rattle.std.proofs.Common.{◌≡◌, ℕ, ◌-◌, true, take, Some, refl, ap, ◌∙◌, arith}
 use Rattle.std.proofs.lemmas.List.{length-set}
 use Rattle.masks.specs.Members.{has}
 use Rattle.masks.proofs.Members.{has_option}
-use Rattle.rows.specs.Rows.{every, is_row}
+use Rattle.rows.specs.Rows.{every}
 use Rattle.places.specs.Entries.{BestOption}
 use Rattle.ranking.specs.Orders.{is_under}
 use Rattle.ranking.specs.Ranks.{under_from}

@@ -1,6 +1,5 @@
-use Rattle.std.proofs.Common.{◌≡◌, ℕ, length, get_or, take, Some, None, ◌∙◌, arith}
+use Rattle.std.proofs.Common.{◌≡◌, length, Some, None, arith}
 use Rattle.std.proofs.lemmas.List.{take_all}
-use Rattle.network.specs.Ways.{IsNetwork}
 use Rattle.network.proofs.NetLaws.{net_more, net_skip, rule_lines, at_number}
 use Rattle.network.proofs.Network.of.Goals as goal
 use Rattle.network.proofs.Network.of.Goals.{in-Some, in_default}

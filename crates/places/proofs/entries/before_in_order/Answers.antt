@@ -1,4 +1,4 @@
-use Rattle.std.proofs.Common.{◌≡◌, sym, ◌∙◌, arith, rules}
+use Rattle.std.proofs.Common.{sym, ◌∙◌, rules}
 use Rattle.order.proofs.Listed.{rest_here, rest_not, rest_on, rest_none}
 use Rattle.places.specs.declared.entries.RankedOption.{RankedOption}
 use Rattle.places.specs.Entries.{entry_before}
