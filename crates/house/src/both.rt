@@ -26,6 +26,7 @@ impl<X: HouseRule, Y: HouseRule> HouseRule for Both<X, Y> {
 
     ghost quiet = { Prim.search rules };
 
+    // A row that passes both rules passes the one that strikes.
     ghost sound = { λ x n partial line option struck row passes agrees at.
         let pass = and_parts (X.HouseRule.passing x.first n row) (Y.HouseRule.passing x.second n row) passes in
         ⊎_elim

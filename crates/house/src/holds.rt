@@ -118,6 +118,7 @@ impl HouseRule for Holds {
 
     ghost quiet = { first_of (Prim.search rules, Prim.grind (arith, Self.row.coded.inj)) };
 
+    // A row adds up to at least what is chosen of it and one option more.
     ghost sound = { λ x n partial line option struck row passes agrees at. over_sound x.counts n partial row agrees x.limit line option struck passes at };
 
     fn kind_letter() -> u8 {

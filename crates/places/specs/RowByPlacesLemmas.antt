@@ -1,3 +1,4 @@
+-- A ranked row made of its entries.
 use Rattle.std.specs.Prelude.{List}
 use Rattle.places.specs.declared.entries.RankedOption.{RankedOption}
 use Rattle.places.specs.declared.entries.RankedRow.{RankedRow}

@@ -75,7 +75,7 @@ places_by_lists in_force line above places u h p =
     }
 
 -- the parent's entry is an option
-option_under_small : (parent : Parent) (line : ℕ) (above : List ℕ) → is_row line above ≡ true → option_under parent above < 16
+pub option_under_small : (parent : Parent) (line : ℕ) (above : List ℕ) → is_row line above ≡ true → option_under parent above < 16
 option_under_small Unsettled line above h = omega arith
 option_under_small Alone line above h = omega arith
 option_under_small (Line p) line above h =

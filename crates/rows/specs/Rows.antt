@@ -13,7 +13,7 @@ is_open e = e == 255
 
 -- what an entry may be: an option or, if that is allowed, open
 abbrev pub entry_test : Bool → ℕ → Bool
-entry_test open-too e = is_option e || (open-too && is_open e)
+entry_test open_too e = is_option e || (open_too && is_open e)
 
 -- a row of n lines: n entries, each an option
 abbrev pub is_row : ℕ → List ℕ → Bool
