@@ -28,6 +28,10 @@ abbrev pub Least : (ℕ → Bool) → Option ℕ → Type 0
 Least test None = (k : ℕ) → test k ≡ false
 Least test (Some n) = (test n ≡ true) × ((k : ℕ) → k < n → test k ≡ false)
 
+-- a figure whose bits that are 1 are the options of a set
+abbrev pub IsFigure : ℕ → Mask → Type 0
+IsFigure bits m = (m ≡ record { bits = bits }) × ((k : ℕ) → has m k ≡ (is_option k && bit_of bits k))
+
 -- a set is known by its options
 abbrev pub SameMembers : Type 0
 SameMembers = (a b : Mask) → a.bits < 2 ^ 16 → b.bits < 2 ^ 16 → ((k : ℕ) → has a k ≡ has b k) → a ≡ b

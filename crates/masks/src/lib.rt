@@ -2,7 +2,7 @@
 #![tactic(auto)]
 
 ghost use Rattle.std.specs.Prelude.{◌≡◌, ℕ, ◌+◌, ◌^◌, ◌<◌, ◌≤◌, true, false, not, ◌&&◌, ◌||◌, if◌then◌else◌, Decides, ◌==◌, nat_lt};
-ghost use Rattle.masks.specs.Members.{is_option, bit_of, has, size, Least, SameMembers};
+ghost use Rattle.masks.specs.Members.{is_option, bit_of, has, size, Least, IsFigure, SameMembers};
 
 /// A set of options: bit k is 1 where option k is in the set.
 #[derive(Clone, Copy)]
@@ -18,23 +18,6 @@ fn bit(option: u8) -> u16
 }
 
 impl Mask {
-    /// The set whose options are the bits of a figure that are 1.
-    pub fn from_bits(bits: u16) -> Mask
-        ensures figure { result ≡ record { bits = bits } }
-        ensures members { (k : ℕ) → has result k ≡ (is_option k && bit_of bits k) }
-    {
-        Mask { bits }
-    }
-
-    /// The figure whose bits that are 1 are the options of the set.
-    pub fn bits(self) -> u16
-        ensures figure { self ≡ record { bits = result } }
-        ensures members { (k : ℕ) → has self k ≡ (is_option k && bit_of result k) }
-    {
-        let Mask { bits } = self;
-        bits
-    }
-
     /// The empty set.
     pub fn none() -> Mask
         ensures { (k : ℕ) → has result k ≡ false }
@@ -120,6 +103,20 @@ impl Mask {
         self.bits == 0
     }
 
+    /// The options that pass a test.
+    pub fn matching<F: Fn(u8) -> bool>(test: F) -> Mask
+        requires { (k : ℕ) → k < 16 → F.pre test k }
+        ensures { (k : ℕ) → k < 16 → F.post test k (has result k) }
+    {
+        let mut set = Mask::none();
+        for option in 0..16 {
+            if test(option) {
+                set = set.with(option);
+            }
+        }
+        set
+    }
+
     /// The option of the smallest number in the set.
     pub fn least(self) -> Option<u8>
         ensures { Least (has self) result }
@@ -143,6 +140,24 @@ impl Mask {
         ensures { SameMembers }
     {
         true
+    }
+}
+
+/// The set whose options are the bits of a figure that are 1.
+impl From<u16> for Mask {
+    ghost from_gives = { IsFigure };
+
+    fn from(bits: u16) -> Mask {
+        Mask { bits }
+    }
+}
+
+/// The figure whose bits that are 1 are the options of the set.
+impl From<Mask> for u16 {
+    ghost from_gives = { λ set bits. IsFigure bits set };
+
+    fn from(set: Mask) -> u16 {
+        set.bits
     }
 }
 

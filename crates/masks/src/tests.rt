@@ -10,10 +10,10 @@ fn options_go_in_and_out(rt: HostRuntime) {
     );
     assert_eq!(rt;
         [
-            edges.bits(),
-            edges.without(15).bits(),
-            edges.without(16).bits(),
-            Mask::only(16).bits(),
+            u16::from(edges),
+            edges.without(15).into(),
+            edges.without(16).into(),
+            Mask::only(16).into(),
         ],
         [32769, 1, 32769, 0]
     );
@@ -23,11 +23,11 @@ fn options_go_in_and_out(rt: HostRuntime) {
 fn the_first_options(rt: HostRuntime) {
     assert_eq!(rt;
         [
-            Mask::first(0).bits(),
-            Mask::first(1).bits(),
-            Mask::first(15).bits(),
-            Mask::first(16).bits(),
-            Mask::first(17).bits(),
+            u16::from(Mask::first(0)),
+            Mask::first(1).into(),
+            Mask::first(15).into(),
+            Mask::first(16).into(),
+            Mask::first(17).into(),
         ],
         [0, 1, 32767, 65535, 65535]
     );
@@ -36,15 +36,22 @@ fn the_first_options(rt: HostRuntime) {
 #[test]
 fn sets_together(rt: HostRuntime) {
     let low = Mask::first(3);
-    let odd = Mask::from_bits(43690);
+    let odd = Mask::from(43690);
     assert_eq!(rt;
         [
-            low.both(odd).bits(),
-            low.either(odd).bits(),
-            low.minus(odd).bits(),
+            u16::from(low.both(odd)),
+            low.either(odd).into(),
+            low.minus(odd).into(),
         ],
         [2, 43695, 5]
     );
+}
+
+#[test]
+fn the_options_that_pass(rt: HostRuntime) {
+    let odd = Mask::matching(|option| option % 2 == 1);
+    let edges = Mask::matching(|option| option == 0 || option >= 15);
+    assert_eq!(rt; [u16::from(odd), edges.into()], [43690, 32769]);
 }
 
 #[test]

@@ -1,9 +1,9 @@
--- The first of what a loop has seen of a group, under the laws of a strict total order.
-use Rattle.std.proofs.Common.{◌≡◌, ℕ, ◌+◌, ◌<◌, ◌≤◌, Bool, true, false, not, eqb, List, [], ◌∷◌, length, get_or, Decides, ⊎_elim, arith}
+-- The first of what a loop has seen of a group, where "goes before" is an order.
+use Rattle.std.proofs.Common.{eqb, Decides, ◌≡◌, ℕ, ◌+◌, ◌<◌, ◌≤◌, Bool, true, false, List, [], ◌∷◌, length, get_or, Some, None, Option, sym, ◌∙◌, ⊎_elim, refl, add-one, arith}
+use Rattle.std.specs.Option.{option_eq}
 use Rattle.std.proofs.lemmas.List.{get_or_read}
-use Rattle.std.proofs.lemmas.Bool.{cases_eq, cases_lt, cases_order, both_ways, eq-eqb, eqb-true}
-use Rattle.order.specs.Firsts.{FirstAt}
-use Rattle.order.proofs.Laws.{asym, ahead}
+use Rattle.std.proofs.lemmas.Bool.{cases_lt, cases_order, both_ways, cases_eq, eq-eqb, eqb-true}
+use Rattle.order.specs.Firsts.{FirstAt, FirstOf}
 
 -- index f has the first of the entries below n
 pub record FirstBelow {X : Type 0} (before : X → X → Bool) (group : List X) (n f : ℕ) : Type 0 where
@@ -16,8 +16,8 @@ any_of : {X : Type 0} (group : List X) (i : ℕ) → i < length group → X
 any_of [] i l = absurd (omega arith)
 any_of (x ∷ xs) i l = x
 
-module _ {X : Type 0} (before : X → X → Bool) (never : (a : X) → before a a ≡ false) (one : (a b : X) → (a ≡ b → ⊥) → before a b ≡ not (before b a))
-    (through : (a b c : X) → before a b ≡ true → before b c ≡ true → before a c ≡ true) where
+module _ {X : Type 0} (before : X → X → Bool) (never : (a : X) → before a a ≡ false) (asym : (a b : X) → before a b ≡ true → before b a ≡ false)
+    (ahead : (a b c : X) → before a b ≡ true → before c b ≡ false → before a c ≡ true) where
   module _ (group : List X) (i f : ℕ) (x y : X) (h : i < length group) (ex : x ≡ get_or group i x) (ey : y ≡ get_or group f y) (so_far : FirstBelow before group i f) where
     at_i : (d : X) → x ≡ get_or group i d
     at_i d = get_or_read group i x h ex d
@@ -27,12 +27,12 @@ module _ {X : Type 0} (before : X → X → Bool) (never : (a : X) → before a 
 
     -- a better entry takes the place
     pub takes : before x y ≡ true → FirstBelow before group (i + 1) i
-    takes t = record { within = omega arith; least = least'; earliest = λ k d m. rw (← at_i d) (ahead before never one through x y (get_or group k d) t (rw (at_f d) (so_far.least k d m))) }
+    takes t = record { within = omega arith; least = least'; earliest = λ k d m. rw (← at_i d) (ahead x y (get_or group k d) t (rw (at_f d) (so_far.least k d m))) }
       where
         least' : (k : ℕ) (d : X) → k < i + 1 → before (get_or group k d) (get_or group i d) ≡ false
         least' k d m =
             ⊎_elim
-            (λ (l : k < i). asym before never one through (get_or group i d) (get_or group k d) (rw (← at_i d) (ahead before never one through x y (get_or group k d) t (rw (at_f d) (so_far.least k d l)))))
+            (λ (l : k < i). asym (get_or group i d) (get_or group k d) (rw (← at_i d) (ahead x y (get_or group k d) t (rw (at_f d) (so_far.least k d l)))))
             (λ (l : i ≤ k). let e : k ≡ i = omega arith in rw e (never (get_or group i d)))
             (cases_lt k i)
 
@@ -60,14 +60,23 @@ module _ {X : Type 0} (before : X → X → Bool) (never : (a : X) → before a 
       found : FirstAt before group f
       found = record { within = (let l = h.within in omega arith); least = λ k d l. h.least k d (omega arith); earliest = h.earliest }
 
--- of two entries the second is the first of the group exactly when it goes before the other
-pub second_first : {X : Type 0} (before : X → X → Bool) (x y : X) (i : ℕ) → FirstAt before (y ∷ (x ∷ [])) i → Decides (eqb i 1) (before x y ≡ true)
-second_first before x y i h = (to, from)
-  where
-    to : eqb i 1 ≡ true → before x y ≡ true
-    to e = let q : i ≡ 1 = eqb-true i 1 e in let a = h.earliest 0 y (omega arith) in rw q at a
+-- an entry behind the head of a group
+pub behind_head : {X : Type 0} (group rest : List X) (head x d : X) (i : ℕ) → group ≡ head ∷ rest → x ≡ get_or rest i d → x ≡ get_or group (i + 1) d
+behind_head group rest head x d i e h = rw (e, add-one) h
 
-    from : before x y ≡ true → eqb i 1 ≡ true
+-- the head of a group
+pub at_head : {X : Type 0} (group rest : List X) (head d : X) → group ≡ head ∷ rest → head ≡ get_or group 0 d
+at_head group rest head d e = rw e refl
+
+-- of two entries the second is the first of the group exactly when it goes before the other
+pub second_first : {X : Type 0} (before : X → X → Bool) (x y : X) (r : Option ℕ) (t : Bool) → FirstOf before (y ∷ (x ∷ [])) r → t ≡ option_eq eqb r (Some 1) → Decides t (before x y ≡ true)
+second_first before x y None t h e = absurd (omega arith)
+second_first before x y (Some i) t h e = (to, from)
+  where
+    to : t ≡ true → before x y ≡ true
+    to p = let q : i ≡ 1 = eqb-true i 1 (sym e ∙ p) in let a = h.0.earliest 0 y (omega arith) in rw q at a
+
+    from : before x y ≡ true → t ≡ true
     from b =
-        let w = h.within in
-        ⊎_elim (λ (q : i ≡ 0). let a = h.least 1 y (omega arith) in absurd (both_ways (before x y) (rw q at a) b)) (λ (q : i ≡ 0 → ⊥). eq-eqb i 1 (omega arith)) (cases_eq i 0)
+        let w = h.0.within in
+        ⊎_elim (λ (q : i ≡ 0). let a = h.0.least 1 y (omega arith) in absurd (both_ways (before x y) (rw q at a) b)) (λ (q : i ≡ 0 → ⊥). e ∙ eq-eqb i 1 (omega arith)) (cases_eq i 0)

@@ -1,3 +1,3 @@
 pub mod Firsts
 pub mod Laws
-pub mod Listed
+pub mod Lists

@@ -1,5 +1,11 @@
--- The first of a group under a strict total order.
-use Rattle.std.specs.Prelude.{◌≡◌, ℕ, ◌<◌, Bool, true, false, not, ◌&&◌, ◌||◌, List, [], ◌∷◌, length, Some, None, Option, slice_index_or}
+-- The first of a group under a total order.
+use Rattle.std.specs.Prelude.{◌≡◌, ℕ, ◌<◌, Bool, true, false, List, length, Some, None, Option, slice_index_or}
+use Rattle.std.specs.Ordering.{is_lt}
+use Rattle.std.specs.declared.cmp.Ordering.{Ordering}
+
+-- an entry goes before another where the comparison answers that it is less
+abbrev pub before_by : {X : Type 0} → (X → X → Ordering) → X → X → Bool
+before_by cmp a b = is_lt (cmp a b)
 
 -- index i has the first of a group: no entry goes before it, and it goes before each that stands earlier in the group
 pub record FirstAt {X : Type 0} (before : X → X → Bool) (group : List X) (i : ℕ) : Type 0 where
@@ -11,10 +17,3 @@ pub record FirstAt {X : Type 0} (before : X → X → Bool) (group : List X) (i 
 abbrev pub FirstOf : {X : Type 0} → (X → X → Bool) → List X → Option ℕ → Type 0
 FirstOf before group None = length group ≡ 0
 FirstOf before group (Some i) = FirstAt before group i × ((j : ℕ) → FirstAt before group j → j ≡ i)
-
--- of two lists the one with the earlier entry goes before, on the first place where they differ; a list goes before one that it begins
-unfoldable pub list_before : {X : Type 0} → (X → X → Bool) → List X → List X → Bool
-list_before before [] [] = false
-list_before before [] (y ∷ ys) = true
-list_before before (x ∷ xs) [] = false
-list_before before (x ∷ xs) (y ∷ ys) = before x y || (not (before y x) && list_before before xs ys)

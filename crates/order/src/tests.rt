@@ -1,27 +1,10 @@
 // The first of small groups of figures, the smaller figure first.
-ghost use Rattle.std.specs.Prelude.{nat_lt};
-ghost use Rattle.std.proofs.Common.{rules};
-
-use crate::{Ordered, first_of};
+use crate::first_of;
 
 /// An entry whose place is its figure.
-#[derive(Clone, Copy)]
+#[derive(Clone, Copy, PartialEq, Eq, PartialOrd, Ord)]
 struct Figure {
     figure: u8,
-}
-
-impl Ordered for Figure {
-    ghost before = { λ a b. nat_lt a.figure b.figure };
-
-    ghost never = { Prim.search rules };
-
-    ghost one = { Prim.search rules };
-
-    ghost through = { Prim.search rules };
-
-    fn goes_before(&self, other: &Figure) -> bool {
-        self.figure < other.figure
-    }
 }
 
 fn entry(figure: u8) -> Figure {

@@ -1,6 +1,0 @@
-use Rattle.std.proofs.Common.{refl}
-use Rattle.masks.proofs.Members.{has_bits}
-use Rattle.masks.proofs.Mask.from_bits.Goals as goal
-
-pub returns : goal.returns
-returns c = record { figure = refl; members = has_bits c.args.bits }
