@@ -1,7 +1,6 @@
 // Two house rules as one.
 ghost use Rattle.std.specs.Prelude.{◌&&◌, ◌||◌};
-ghost use Rattle.std.proofs.Common.{⊎_elim, rules};
-ghost use Rattle.std.proofs.lemmas.Bool.{and_parts, or_cases};
+ghost use Rattle.std.proofs.Common.{rules, arith};
 
 use crate::HouseRule;
 use masks::Mask;
@@ -16,7 +15,7 @@ pub struct Both<X, Y> {
 impl<X: HouseRule, Y: HouseRule> HouseRule for Both<X, Y> {
     const LETTER: u8 = b'B';
 
-    ghost letter = { 66 };
+    ghost LETTER = { 66 };
 
     ghost passing = { λ x n row. X.HouseRule.passing x.first n row && Y.HouseRule.passing x.second n row };
 
@@ -27,16 +26,7 @@ impl<X: HouseRule, Y: HouseRule> HouseRule for Both<X, Y> {
     ghost quiet = { Prim.search rules };
 
     // A row that passes both rules passes the one that strikes.
-    ghost sound = { λ x n partial line option struck row passes agrees at.
-        let pass = and_parts (X.HouseRule.passing x.first n row) (Y.HouseRule.passing x.second n row) passes in
-        ⊎_elim
-        (λ h. X.HouseRule.sound x.first n partial line option h row pass.0 agrees at)
-        (λ h. Y.HouseRule.sound x.second n partial line option h row pass.1 agrees at)
-        (or_cases (X.HouseRule.striking x.first n partial line option) (Y.HouseRule.striking x.second n partial line option) struck) };
-
-    fn kind_letter() -> u8 {
-        b'B'
-    }
+    ghost sound = { λ x n partial line option. Prim.grind (arith, X.HouseRule.sound x.first n partial line option, Y.HouseRule.sound x.second n partial line option) };
 
     fn passes(&self, n: usize, row: &[u8]) -> bool {
         self.first.passes(n, row) && self.second.passes(n, row)

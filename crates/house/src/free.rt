@@ -9,12 +9,12 @@ use masks::Mask;
 
 /// No restriction: every row passes and nothing is struck.
 #[derive(Clone, Copy)]
-pub struct Free {}
+pub struct Free;
 
 impl HouseRule for Free {
     const LETTER: u8 = b'F';
 
-    ghost letter = { 70 };
+    ghost LETTER = { 70 };
 
     ghost passing = { λ _ n row. is_judged n row };
 
@@ -25,10 +25,6 @@ impl HouseRule for Free {
     ghost quiet = { Prim.search rules };
 
     ghost sound = { Prim.search rules };
-
-    fn kind_letter() -> u8 {
-        Self::LETTER
-    }
 
     fn passes(&self, n: usize, row: &[u8]) -> bool {
         is_judged(n, row)

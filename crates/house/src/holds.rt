@@ -36,30 +36,28 @@ impl Holds {
     pub fn holds(&self, line: u32, option: u32) -> Option<u16>
         ensures { MatchOption result (is_card line option ≡ false) (λ figure. (is_card line option ≡ true) × (figure ≡ holds_of self.now.counts line option)) }
     {
-        if line < 16 && option < 16 {
-            Some(self.counts[line as usize][option as usize])
-        } else {
-            None
-        }
+        self.counts
+            .get(line as usize)?
+            .get(option as usize)
+            .copied()
     }
 
     /// The limit.
     pub fn limit(&self) -> u16
         ensures { result ≡ self.now.limit }
     {
-        let limit = self.limit;
-        limit
+        self.limit
     }
 
     /// Sets the holds of a card in place of the figure that it had.
     pub fn set_holds(&mut self, line: u32, option: u32, figure: u32) -> Result<(), HouseRefusal>
         ensures { Taken (is_card line option && is_count figure) (OneChanged self.old.counts self.new.counts line option figure × (self.new.limit ≡ self.old.limit)) self.old self.new result }
     {
+        // Plain tests: by `get_mut` the figure's own test would still stand apart.
         if line >= 16 || option >= 16 || figure > 999 {
             return Err(HouseRefusal::OutOfRange);
         }
-        let options = &mut self.counts[line as usize];
-        options[option as usize] = figure as u16;
+        self.counts[line as usize][option as usize] = figure as u16;
         Ok(())
     }
 
@@ -80,14 +78,13 @@ impl Holds {
         ensures sum { result ≡ load self.now.counts row.now (length row.now) }
         ensures small { result ≤ 999 * 16 }
     {
-        let mut sum = 0;
-        for line in 0..row.len() {
-            let entry = row[line] as usize;
-            if entry < 16 {
-                sum += self.counts[line][entry] as u32;
-            }
-        }
-        sum
+        row.iter()
+            .zip(&self.counts)
+            .map(|(entry, counts)| counts
+                .get(usize::from(*entry))
+                .copied()
+                .map_or(0, u32::from))
+            .sum()
     }
 
     /// The options of a line whose holds exceed what is left of the limit beside a load.
@@ -95,38 +92,29 @@ impl Holds {
         requires { (line ≤ 15) × (load ≤ 999 * 16) }
         ensures { (k : ℕ) → has result k ≡ (is_option k && nat_lt self.now.limit (load + holds_of self.now.counts line k)) }
     {
-        let mut struck = Mask::none();
-        for option in 0..16u8 {
-            if load + self.counts[line][option as usize] as u32 > self.limit as u32 {
-                struck = struck.with(option);
-            }
-        }
-        struck
+        let counts = &self.counts[line];
+        Mask::matching(|option| load + u32::from(counts[option as usize]) > u32::from(self.limit))
     }
 }
 
 impl HouseRule for Holds {
     const LETTER: u8 = b'H';
 
-    ghost letter = { 72 };
+    ghost LETTER = { 72 };
 
     ghost passing = { λ x n row. is_within x.counts x.limit n row };
 
     ghost striking = { λ x n partial line option. is_over x.counts x.limit n partial line option };
 
-    ghost judged = { first_of (Prim.search rules, Prim.grind (arith, Self.row.coded.inj)) };
+    ghost judged = { Prim.search rules };
 
-    ghost quiet = { first_of (Prim.search rules, Prim.grind (arith, Self.row.coded.inj)) };
+    ghost quiet = { Prim.search rules };
 
     // A row adds up to at least what is chosen of it and one option more.
     ghost sound = { λ x n partial line option struck row passes agrees at. over_sound x.counts n partial row agrees x.limit line option struck passes at };
 
-    fn kind_letter() -> u8 {
-        Self::LETTER
-    }
-
     fn passes(&self, n: usize, row: &[u8]) -> bool {
-        is_judged(n, row) && self.load(row) <= self.limit as u32
+        is_judged(n, row) && self.load(row) <= u32::from(self.limit)
     }
 
     fn strikes(&self, n: usize, row: &[u8], line: usize) -> Mask {

@@ -19,8 +19,8 @@ pub trait HouseRule {
     /// The letter of the kind.
     const LETTER: u8;
 
-    /// The number that LETTER is.
-    ghost letter: { ℕ };
+    /// The number that the letter is.
+    ghost LETTER: { ℕ };
 
     /// Whether a row of n lines passes.
     ghost passing: { Self → ℕ → List ℕ → Bool };
@@ -28,9 +28,7 @@ pub trait HouseRule {
     /// Whether an option of an open line is struck beside the chosen entries of a partial row of n lines.
     ghost striking: { Self → ℕ → List ℕ → ℕ → ℕ → Bool };
 
-    /// The letter of the kind, as generic code can ask for it.
-    fn kind_letter() -> u8
-        ensures { result ≡ letter };
+    // The questions take n and the row apart: a row of another length is a question too, and gets no.
 
     /// Whether a row of n lines passes; no for anything else.
     fn passes(&self, n: usize, row: &[u8]) -> bool

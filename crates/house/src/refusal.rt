@@ -9,12 +9,12 @@ pub enum HouseRefusal {
     OutOfRange,
 }
 
-impl HouseRefusal {
-    /// The number of the refusal.
-    pub fn number(self) -> u8
-        ensures { result ≡ number_of self }
-    {
-        match self {
+/// The number of a refusal.
+impl From<HouseRefusal> for u8 {
+    ghost from_gives = { λ refusal number. number ≡ number_of refusal };
+
+    fn from(refusal: HouseRefusal) -> u8 {
+        match refusal {
             HouseRefusal::OutOfRange => 23,
         }
     }

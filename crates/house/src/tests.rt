@@ -1,4 +1,6 @@
 // House rules at the edges of their figures and of what they judge.
+ghost use Rattle.std.specs.Prelude.{◌≡◌};
+
 use crate::HouseRule;
 use crate::both::Both;
 use crate::free::Free;
@@ -15,6 +17,13 @@ fn ten() -> Result<Holds, HouseRefusal> {
     table.set_holds(1, 5, 6)?;
     table.set_holds(1, 6, 7)?;
     Ok(table)
+}
+
+/// The letter of any kind, as generic code asks for it.
+fn letter_of<R: HouseRule>() -> u8
+    ensures { result ≡ R.LETTER }
+{
+    R::LETTER
 }
 
 #[test]
@@ -42,7 +51,7 @@ fn figures_at_their_edges(rt: HostRuntime) -> Result<(), Fail> {
         ],
         [Some(999), Some(0), None, None]
     );
-    assert!(rt; table.limit() == 16000 && HouseRefusal::OutOfRange.number() == 23);
+    assert!(rt; table.limit() == 16000 && u8::from(HouseRefusal::OutOfRange) == 23);
     Ok(())
 }
 
@@ -52,8 +61,8 @@ fn up_to_the_limit(rt: HostRuntime) -> Result<(), Fail> {
     assert!(rt; table.passes(2, &[3, 5]) && !table.passes(2, &[3, 6]));
     assert_eq!(rt;
         [
-            table.strikes(2, &[3, OPEN], 1).bits(),
-            table.strikes(2, &[OPEN, 6], 0).bits(),
+            u16::from(table.strikes(2, &[3, OPEN], 1)),
+            table.strikes(2, &[OPEN, 6], 0).into(),
         ],
         [64, 8]
     );
@@ -62,7 +71,7 @@ fn up_to_the_limit(rt: HostRuntime) -> Result<(), Fail> {
 
 #[test]
 fn only_what_can_be_judged(rt: HostRuntime) {
-    let free = Free {};
+    let free = Free;
     assert_eq!(rt;
         [
             free.passes(16, &[15; 16]),
@@ -81,12 +90,12 @@ fn only_open_lines(rt: HostRuntime) -> Result<(), Fail> {
     table.set_limit(0)?;
     assert_eq!(rt;
         [
-            table.strikes(2, &[3, OPEN], 0).bits(),
-            table.strikes(2, &[16, OPEN], 1).bits(),
-            table.strikes(17, &[OPEN; 17], 1).bits(),
-            table.strikes(0, &[], 0).bits(),
-            table.strikes(3, &[3, OPEN], 1).bits(),
-            table.strikes(2, &[3, OPEN], 2).bits(),
+            u16::from(table.strikes(2, &[3, OPEN], 0)),
+            table.strikes(2, &[16, OPEN], 1).into(),
+            table.strikes(17, &[OPEN; 17], 1).into(),
+            table.strikes(0, &[], 0).into(),
+            table.strikes(3, &[3, OPEN], 1).into(),
+            table.strikes(2, &[3, OPEN], 2).into(),
         ],
         [0; 6]
     );
@@ -102,21 +111,21 @@ fn rules_together(rt: HostRuntime) -> Result<(), Fail> {
             first: ten()?,
             second: strict,
         },
-        second: Free {},
+        second: Free,
     };
     assert!(rt; rule.passes(2, &[3, 4]) && !rule.passes(2, &[3, 5]));
     assert_eq!(rt;
         [
-            rule.strikes(2, &[3, OPEN], 1).bits(),
-            rule.strikes(2, &[3, 5], 1).bits(),
+            u16::from(rule.strikes(2, &[3, OPEN], 1)),
+            rule.strikes(2, &[3, 5], 1).into(),
         ],
         [96, 0]
     );
     assert_eq!(rt;
         [
-            Free::kind_letter(),
-            Holds::kind_letter(),
-            Both::<Free, Holds>::kind_letter(),
+            Free::LETTER,
+            letter_of::<Holds>(),
+            letter_of::<Both<Free, Holds>>(),
             Both::<Free, Holds>::LETTER,
         ],
         [b'F', b'H', b'B', b'B']

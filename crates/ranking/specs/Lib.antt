@@ -5,4 +5,3 @@ pub mod Refusals
 pub mod Ranks
 pub mod Permutations
 pub mod ListLaws
-pub mod Filling

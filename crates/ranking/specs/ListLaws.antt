@@ -1,30 +1,23 @@
 -- The laws of ranking lists: of what stands in one, of what it lacks, and of places. Assumes nothing.
 use Rattle.std.specs.Prelude.{◌≡◌, ℕ, zero, suc, ◌+◌, ◌<◌, ◌≤◌, Bool, true, false, cond, not, ◌&&◌, ◌||◌, List, [], ◌∷◌, ◌++◌, length, ◌==◌, nat_eq, slice_index_or, refl}
 use Rattle.std.proofs.Common.{sym, ap, ◌∙◌, ⊎_elim, add-one, arith, length-append}
-use Rattle.std.proofs.lemmas.List.{append-nil}
-use Rattle.std.proofs.lemmas.Bool.{cases_eq, eq-eqb, ne_eqb, and_parts, and_from, or_parts, or_from, or_left, or_right, ltb-true, lt-ltb, not-true}
+use Rattle.std.proofs.lemmas.List.Recursion.{or_push, or_at}
+use Rattle.std.proofs.Math.Bool.{or_assoc}
+use Rattle.std.proofs.lemmas.Bool.{cases_eq, eq-eqb, ne_eqb, and_parts, and_from, or_parts, or_from, ltb-true, lt-ltb, not-true}
 use Rattle.std.proofs.lemmas.Bool.Decides.{nat_tests}
 use Rattle.masks.specs.Members.{is_option}
 use Rattle.ranking.specs.Lists.{stands, is_list, missing}
-
-or_assoc : (a b c : Bool) → (a || (b || c)) ≡ ((a || b) || c)
-or_assoc true b c = refl
-or_assoc false b c = refl
-
-or_false : (b : Bool) → (b || false) ≡ b
-or_false true = refl
-or_false false = refl
 
 -- what stands in two lists, one behind the other
 pub stands_append : (o : ℕ) (xs ys : List ℕ) → stands o (xs ++ ys) ≡ (stands o xs || stands o ys)
 unfolding stands
 stands_append o [] ys = refl
-stands_append o (x ∷ xs) ys = ap (λ (b : Bool). (o == x) || b) (stands_append o xs ys) ∙ or_assoc (o == x) (stands o xs) (stands o ys)
+stands_append o (x ∷ xs) ys = ap (λ (b : Bool). (o == x) || b) (stands_append o xs ys) ∙ sym (or_assoc (o == x) (stands o xs) (stands o ys))
 
 -- one more at the end
 pub stands_push : (o z : ℕ) (xs : List ℕ) → stands o (xs ++ (z ∷ [])) ≡ (stands o xs || o == z)
 unfolding stands
-stands_push o z xs = stands_append o xs (z ∷ []) ∙ ap (λ (b : Bool). stands o xs || b) (or_false (o == z))
+stands_push o z xs = or_push (stands o) (λ x. o == x) refl (λ _ _. refl) xs z
 
 pub stands_none : (o : ℕ) → stands o [] ≡ false
 unfolding stands
@@ -33,9 +26,9 @@ stands_none o = refl
 -- an entry of a list stands in it
 pub stands_at : (xs : List ℕ) (k d : ℕ) → k < length xs → stands (slice_index_or xs k d) xs ≡ true
 unfolding stands
-stands_at [] k d l = absurd (omega arith)
-stands_at (x ∷ xs) zero d l = or_left (x == x) (stands x xs) (eq-eqb x x refl)
-stands_at (x ∷ xs) (suc k) d l = or_right (slice_index_or xs k d == x) (stands (slice_index_or xs k d) xs) (stands_at xs k d (omega arith))
+stands_at xs k d l =
+    let o = slice_index_or xs k d in
+    or_at (stands o) (λ x. o == x) refl (λ _ _. refl) xs k d l (eq-eqb o o refl)
 
 -- the parts of a list
 pub list_parts : (x : ℕ) (xs : List ℕ) → is_list (x ∷ xs) ≡ true → (x < 16) × (stands x xs ≡ false) × (is_list xs ≡ true)
@@ -127,19 +120,12 @@ pub list_short : (xs : List ℕ) → is_list xs ≡ true → length xs ≤ 16
 list_short xs h = let w = whole xs h in omega arith
 
 -- one option on
-pub missing_more : (o : ℕ) (xs : List ℕ) → missing (o + 1) xs ≡ missing o xs ++ cond (stands o xs) [] (o ∷ [])
+missing_more : (o : ℕ) (xs : List ℕ) → missing (o + 1) xs ≡ missing o xs ++ cond (stands o xs) [] (o ∷ [])
 unfolding missing
 missing_more o xs = ap (λ (n : ℕ). missing n xs) (add-one o)
 
-pub missing_old : (o : ℕ) (xs : List ℕ) → stands o xs ≡ true → missing (o + 1) xs ≡ missing o xs
-missing_old o xs h = missing_more o xs ∙ ap (λ (b : Bool). missing o xs ++ cond b [] (o ∷ [])) h ∙ append-nil (missing o xs)
-
-pub missing_new : (o : ℕ) (xs : List ℕ) → stands o xs ≡ false → missing (o + 1) xs ≡ missing o xs ++ (o ∷ [])
+missing_new : (o : ℕ) (xs : List ℕ) → stands o xs ≡ false → missing (o + 1) xs ≡ missing o xs ++ (o ∷ [])
 missing_new o xs h = missing_more o xs ∙ ap (λ (b : Bool). missing o xs ++ cond b [] (o ∷ [])) h
-
-pub missing_none : (xs : List ℕ) → missing 0 xs ≡ []
-unfolding missing
-missing_none xs = refl
 
 missing_grows : (m n : ℕ) (xs : List ℕ) → m ≤ n → length (missing m xs) ≤ length (missing n xs)
 unfolding missing

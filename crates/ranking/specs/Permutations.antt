@@ -2,8 +2,8 @@
 use Rattle.std.specs.Prelude.{◌≡◌, ℕ, zero, suc, ◌<◌, ◌≤◌, Bool, true, false, cond, List, [], ◌∷◌, ◌++◌, length, get_or, ◌==◌, nat_eq, slice_index, slice_index_or, refl}
 use Rattle.std.proofs.Common.{sym, ap, ◌∙◌, append_assoc, ⊎_elim, arith, length-append}
 use Rattle.std.proofs.lemmas.List.{append-nil}
-use Rattle.std.proofs.lemmas.Bool.{cases_Bool, eq-eqb, ne_eqb, eqb-true, and_parts, and_from, or_from, or_cases, both_ways, cond-true, cond-false}
-use Rattle.ranking.specs.Lists.{stands, is_list, is_permutation, missing, filled, place_in}
+use Rattle.std.proofs.lemmas.Bool.{cases_Bool, cases_eq, eq-eqb, ne_eqb, eqb-true, and_parts, and_from, or_from, or_cases, both_ways, cond-true, cond-false}
+use Rattle.ranking.specs.Lists.{stands, is_list, is_permutation, missing, filled, place_in, are_places}
 use Rattle.ranking.specs.ListLaws.{stands_append, stands_push, stands_none, stands_at, list_parts, list_option, list_push, whole, room}
 
 -- what is lacked below n is below n
@@ -86,3 +86,17 @@ place_same row a b h la lb e =
 
 pub place_below : (row : List ℕ) (o : ℕ) → is_permutation row ≡ true → o < 16 → place_in o row < 16
 place_below row o h l = let p = at_place row o 0 (permutation_stands row o h l) in let n = permutation_length row h in omega arith
+
+-- figures are the places of all options below n where each is that of its option
+pub places_from : (n : ℕ) (places row : List ℕ) → ((o : ℕ) → o < n → slice_index places o ≡ place_in o row) → are_places n places row ≡ true
+unfolding are_places
+places_from zero places row h = refl
+places_from (suc n) places row h =
+    and_from (slice_index places n == place_in n row) (are_places n places row) (eq-eqb _ _ (h n (omega arith))) (places_from n places row (λ o l. h o (omega arith)))
+
+pub places_at : (n : ℕ) (places row : List ℕ) → are_places n places row ≡ true → (o : ℕ) → o < n → slice_index places o ≡ place_in o row
+unfolding are_places
+places_at zero places row h o l = absurd (omega arith)
+places_at (suc n) places row h o l =
+    let p = and_parts (slice_index places n == place_in n row) (are_places n places row) h in
+    ⊎_elim (λ (e : o ≡ n). rw e (eqb-true _ _ p.0)) (λ (e : o ≡ n → ⊥). places_at n places row p.1 o (omega arith)) (cases_eq o n)

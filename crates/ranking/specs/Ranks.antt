@@ -12,8 +12,7 @@ use Rattle.ranking.specs.declared.condition.Parent.TheVariants.{Unsettled, Alone
 use Rattle.ranking.specs.Conditions.{option_under, slot}
 use Rattle.ranking.specs.Lists.{is_permutation, place_in, are_places}
 use Rattle.ranking.specs.Orders.{is_line, is_under, is_asked, IsRanking, ArePlacesOf, by_lists}
-use Rattle.ranking.specs.Permutations.{place_same, place_below}
-use Rattle.ranking.specs.Filling.{places_at}
+use Rattle.ranking.specs.Permutations.{place_same, place_below, places_at}
 
 -- what is asked: a line below sixteen, the entries above it, and two options
 pub asked_parts : (line : ℕ) (above : List ℕ) (a b : ℕ) → is_asked line above a b ≡ true → (is_under line above ≡ true) × (a < 16) × (b < 16)

@@ -8,7 +8,7 @@ ghost use Rattle.ranking.specs.declared.condition.Parent.TheVariants.{Unsettled}
 ghost use Rattle.ranking.specs.Ranks.{ranks_by_lists, slot_below};
 
 use crate::Ranking;
-use crate::condition::{Condition, Parent};
+use crate::condition::{Condition, Parent, Settled, is_above};
 use crate::fill::fill;
 use crate::lists::Lists;
 use crate::questions::{is_asked, is_under};
@@ -19,63 +19,6 @@ use crate::refusal::RankingRefusal;
 pub struct ConditionalRanking {
     parents: [Parent; 16],
     lists: Lists<256>,
-}
-
-/// Whether a condition names a line and an option.
-fn is_condition(condition: Option<Condition>) -> bool
-    ensures { result ≡ is_condition condition }
-{
-    match condition {
-        None => true,
-        Some(c) => c.parent < 16 && c.option < 16,
-    }
-}
-
-/// Whether the parent that a condition names is above a line.
-fn is_above(condition: Option<Condition>, line: u32) -> bool
-    ensures { result ≡ is_above condition line }
-{
-    match condition {
-        None => true,
-        Some(c) => c.parent < line,
-    }
-}
-
-/// Whether a condition has the parent that the line's first list settled.
-fn agrees_with(parent: Parent, condition: Option<Condition>) -> bool
-    ensures { result ≡ agrees_with parent condition }
-{
-    match (parent, condition) {
-        (Parent::Unsettled, _) => true,
-        (Parent::Alone, None) => true,
-        (Parent::Alone, Some(_)) => false,
-        (Parent::Line(_), None) => false,
-        (Parent::Line(p), Some(c)) => c.parent == p as u32,
-    }
-}
-
-/// What a list settles for its line, and the parent option under which it holds.
-fn settled_by(condition: Option<Condition>) -> (Parent, usize)
-    requires { is_condition condition ≡ true }
-    ensures { (result.0 ≡ parent_of condition) × (result.1 ≡ option_in condition) × (result.1 < 16) }
-{
-    match condition {
-        None => (Parent::Alone, 0),
-        Some(c) => (Parent::Line(c.parent as u8), c.option as usize),
-    }
-}
-
-/// The parent option that stands above a line.
-fn option_under(parent: Parent, above: &[u8]) -> usize
-    ensures { result ≡ option_under parent above.now }
-{
-    match parent {
-        Parent::Line(p) => match above.get(p as usize) {
-            Some(option) => *option as usize,
-            None => 0,
-        },
-        _ => 0,
-    }
 }
 
 impl ConditionalRanking {
@@ -99,35 +42,36 @@ impl ConditionalRanking {
     ) -> Result<(), RankingRefusal>
         ensures { Taken (is_line line && (is_condition condition && is_list list.now)) (is_above condition line && agrees_with (slice_index_or self.old.parents line Unsettled) condition) ((self.new.parents ≡ slice_set self.old.parents line (parent_of condition)) × (self.new.lists.rows ≡ slice_set self.old.lists.rows (slot line (option_in condition)) (filled list.now))) self.old self.new result }
     {
-        if line >= 16 || !is_condition(condition) {
+        if line >= 16 {
             return Err(RankingRefusal::OutOfRange);
         }
-        let Some(row) = fill(list) else {
-            return Err(RankingRefusal::OutOfRange);
-        };
+        let settled = Settled::try_from(condition)?;
+        let row = fill(list)?;
         let k = line as usize;
-        if !is_above(condition, line) || !agrees_with(self.parents[k], condition) {
+        if !is_above(condition, line) || !self.parents[k].allows(settled.parent) {
             return Err(RankingRefusal::OtherParent);
         }
-        let (parent, option) = settled_by(condition);
-        self.parents[k] = parent;
-        self.lists.replace(k * 16 + option, row);
+        self.parents[k] = settled.parent;
+        self.lists
+            .replace(k * 16 + usize::from(settled.option), row);
         Ok(())
     }
 
     /// Which of the lists is in force on a line, under the entries above it.
+    #[tactic(auto, using(crate::specs::Ranks::slot_below))]
     fn slot_under(&self, line: usize, above: &[u8]) -> usize
         requires { is_under line above.now ≡ true }
-        ensures { (result ≡ slot line (option_under (slice_index_or self.now.parents line Unsettled) above.now)) × (result < 256) }
+        ensures slot { result ≡ slot line (option_under (slice_index_or self.now.parents line Unsettled) above.now) }
+        ensures within { result < 256 }
     {
-        line * 16 + option_under(self.parents[line], above)
+        line * 16 + self.parents[line].option_under(above)
     }
 }
 
 impl Ranking for ConditionalRanking {
     const LETTER: u8 = b'C';
 
-    ghost letter = { 67 };
+    ghost LETTER = { 67 };
 
     ghost before = { λ x. by_lists (in_force x.parents x.lists.rows) };
 
@@ -136,14 +80,12 @@ impl Ranking for ConditionalRanking {
         let parent = get_or x.parents line Unsettled in
         x.lists.whole (slot line (option_under parent above)) (slot_below parent line above h)) };
 
-    fn kind_letter() -> u8 {
-        Self::LETTER
-    }
-
+    // Both answers are ListRanking's but for the list in force: a helper that is passed its number saves no line.
     fn goes_before(&self, line: usize, above: &[u8], a: u8, b: u8) -> bool {
         is_asked(line, above, a, b) && self.lists.stands_before(self.slot_under(line, above), a, b)
     }
 
+    #[tactic(auto, using(crate::specs::Ranks::places_by_lists, crate::specs::Ranks::slot_below))]
     fn places(&self, line: usize, above: &[u8]) -> [u8; 16] {
         if is_under(line, above) {
             self.lists.places_of(self.slot_under(line, above))

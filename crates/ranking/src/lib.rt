@@ -19,15 +19,10 @@ pub trait Ranking {
     /// The letter of the kind.
     const LETTER: u8;
 
-    /// The number that LETTER is.
-    ghost letter: { ℕ };
+    ghost LETTER: { ℕ };
 
     /// Whether, on a line and under the entries above it, the first of two options goes before the second.
     ghost before: { Self → ℕ → List ℕ → ℕ → ℕ → Bool };
-
-    /// The letter of the kind, as generic code can ask for it.
-    fn kind_letter() -> u8
-        ensures { result ≡ letter };
 
     /// Whether, on a line and under the entries above it, option a goes before option b; no for anything else.
     fn goes_before(&self, line: usize, above: &[u8], a: u8, b: u8) -> bool

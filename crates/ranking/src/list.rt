@@ -31,11 +31,7 @@ impl ListRanking {
     pub fn list(&self, line: u32) -> Option<[u8; 16]>
         ensures { MatchOption result (is_line line ≡ false) (λ row. (is_line line ≡ true) × (row ≡ slice_index_or self.now.lists.rows line [])) }
     {
-        if line < 16 {
-            Some(self.lists.row(line as usize))
-        } else {
-            None
-        }
+        self.lists.row(line as usize)
     }
 
     /// Gives a line a list, filled up, in place of the one that it had.
@@ -45,33 +41,25 @@ impl ListRanking {
         if line >= 16 {
             return Err(RankingRefusal::OutOfRange);
         }
-        match fill(list) {
-            Some(row) => {
-                self.lists.replace(line as usize, row);
-                Ok(())
-            }
-            None => Err(RankingRefusal::OutOfRange),
-        }
+        self.lists.replace(line as usize, fill(list)?);
+        Ok(())
     }
 }
 
 impl Ranking for ListRanking {
     const LETTER: u8 = b'L';
 
-    ghost letter = { 76 };
+    ghost LETTER = { 76 };
 
     ghost before = { λ x. by_lists (λ line _. get_or x.lists.rows line []) };
 
     ghost ranks = { λ x. ranks_by_lists (λ line _. get_or x.lists.rows line []) (λ line above h. x.lists.whole line (under_parts line above h).0) };
 
-    fn kind_letter() -> u8 {
-        Self::LETTER
-    }
-
     fn goes_before(&self, line: usize, above: &[u8], a: u8, b: u8) -> bool {
         is_asked(line, above, a, b) && self.lists.stands_before(line, a, b)
     }
 
+    #[tactic(auto, using(crate::specs::Ranks::places_by_lists, crate::specs::Ranks::under_parts))]
     fn places(&self, line: usize, above: &[u8]) -> [u8; 16] {
         if is_under(line, above) {
             self.lists.places_of(line)

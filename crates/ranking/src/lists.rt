@@ -1,10 +1,11 @@
 // Ranking lists, each with all sixteen options.
-ghost use Rattle.std.specs.Prelude.{◌≡◌, ℕ, ◌<◌, true, [], nat_lt, slice_index_or, slice_set};
+ghost use Rattle.std.specs.Prelude.{◌≡◌, ℕ, ◌<◌, true, false, [], MatchOption, nat_lt, slice_index_or, slice_set};
 ghost use Rattle.ranking.specs.Lists.{is_permutation, filled, place_in, are_places};
 
 use crate::fill::places_in;
 
 /// N ranking lists: each row has all sixteen options, the best first, and beside it the place of each option in it.
+// Two arrays side by side, of bare rows: every ranking list is a plain row of sixteen options in its own array.
 #[derive(Clone, Copy)]
 pub struct Lists<const N: usize> {
     rows: [[u8; 16]; N],
@@ -25,12 +26,11 @@ impl<const N: usize> Lists<N> {
         }
     }
 
-    /// A whole list.
-    pub fn row(&self, k: usize) -> [u8; 16]
-        requires { k < N }
-        ensures { result ≡ slice_index_or self.now.rows k [] }
+    /// A whole list; none of what is no list's number.
+    pub fn row(&self, k: usize) -> Option<[u8; 16]>
+        ensures { MatchOption result (nat_lt k N ≡ false) (λ row. (nat_lt k N ≡ true) × (row ≡ slice_index_or self.now.rows k [])) }
     {
-        self.rows[k]
+        self.rows.get(k).copied()
     }
 
     /// The place of each option in a list.
@@ -42,11 +42,14 @@ impl<const N: usize> Lists<N> {
     }
 
     /// Whether option a stands before option b in a list.
+    #[tactic(auto, using(crate::specs::Permutations::places_at))]
     pub fn stands_before(&self, k: usize, a: u8, b: u8) -> bool
-        requires { (k < N) × ((a < 16) × (b < 16)) }
+        requires within { k < N }
+        requires first { a < 16 }
+        requires second { b < 16 }
         ensures { result ≡ nat_lt (place_in a (slice_index_or self.now.rows k [])) (place_in b (slice_index_or self.now.rows k [])) }
     {
-        self.places[k][a as usize] < self.places[k][b as usize]
+        self.places[k][usize::from(a)] < self.places[k][usize::from(b)]
     }
 
     /// Writes a whole list in the place of another.

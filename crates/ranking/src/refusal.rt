@@ -11,12 +11,12 @@ pub enum RankingRefusal {
     OtherParent,
 }
 
-impl RankingRefusal {
-    /// The number of the refusal.
-    pub fn number(self) -> u8
-        ensures { result ≡ number_of self }
-    {
-        match self {
+/// The number of the refusal.
+impl From<RankingRefusal> for u8 {
+    ghost from_gives = { λ refusal number. number ≡ number_of refusal };
+
+    fn from(refusal: RankingRefusal) -> u8 {
+        match refusal {
             RankingRefusal::OutOfRange => 20,
             RankingRefusal::OtherParent => 21,
         }

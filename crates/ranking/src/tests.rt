@@ -40,8 +40,8 @@ fn a_bad_list_changes_nothing(rt: HostRuntime) {
     );
     assert_eq!(rt;
         [
-            RankingRefusal::OutOfRange.number(),
-            RankingRefusal::OtherParent.number(),
+            u8::from(RankingRefusal::OutOfRange),
+            u8::from(RankingRefusal::OtherParent),
         ],
         [20, 21]
     );
@@ -67,10 +67,7 @@ fn the_question_has_a_domain(rt: HostRuntime) {
         [false, false, false]
     );
     assert_eq!(rt;
-        [
-            ListRanking::kind_letter(),
-            ConditionalRanking::kind_letter(),
-        ],
+        [ListRanking::LETTER, ConditionalRanking::LETTER],
         [b'L', b'C']
     );
 }
