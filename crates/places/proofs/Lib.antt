@@ -1,4 +1,3 @@
-pub mod FigureLaws
-pub mod FirstLaws
-pub mod GroupLaws
+pub mod EntryOrders
+pub mod Groups
 pub mod PlaceLaws

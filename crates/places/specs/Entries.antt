@@ -1,5 +1,5 @@
 -- Options and rows as entries of a group, each with its places in a ranking.
-use Rattle.std.specs.Prelude.{◌≡◌, ℕ, ◌<◌, ◌≤◌, Bool, true, false, ◌&&◌, ◌||◌, ◌⊎◌, List, length, get_or, take, Some, None, Option, ◌==◌, nat_le, nat_lt, slice_index, slice_index_or}
+use Rattle.std.specs.Prelude.{◌≡◌, ℕ, ◌<◌, ◌≤◌, Bool, true, false, ◌&&◌, ◌||◌, ◌⊎◌, List, length, take, Some, None, Option, ◌==◌, nat_le, nat_lt, slice_index, slice_index_or, All, Contains}
 use Rattle.rows.specs.Rows.{is_row}
 use Rattle.ranking.specs.Orders.{is_under, place_of}
 use Rattle.places.specs.declared.entries.RankedOption.{RankedOption}
@@ -22,23 +22,16 @@ pub record RanksRow (before : ℕ → List ℕ → ℕ → ℕ → Bool) (row : 
   pub here : (k : ℕ) (d : RankedOption) → k < length row → slice_index_or entries k d ≡ ranked before k (take k row) (slice_index row k)
   pub rest : (k : ℕ) (d : RankedOption) → length row ≤ k → k < 16 → slice_index_or entries k d ≡ open_entry
 
--- the first entries of a group: the options of a set with their places on a line
-pub record RanksOptions (before : ℕ → List ℕ → ℕ → ℕ → Bool) (line : ℕ) (above : List ℕ) (test : ℕ → Bool) (entries : List RankedOption) (count : ℕ) : Type 0 where
-  pub few : count ≤ 16
-  pub whole : length entries ≡ 16
-  pub each : (k : ℕ) (d : RankedOption) → k < count → (slice_index_or entries k d ≡ ranked before line above (get_or entries k d).option) × (test (get_or entries k d).option ≡ true)
-  pub all : (o : ℕ) → test o ≡ true → (k : ℕ) × (k < count) × ((d : RankedOption) → (get_or entries k d).option ≡ o)
+-- the options of a set, each with a place that it is given
+pub record PlacesOptions (given : ℕ → ℕ → Type 0) (test : ℕ → Bool) (entries : List RankedOption) : Type 0 where
+  pub each : All (λ e. given e.option e.place × (test e.option ≡ true)) entries
+  pub all : (o : ℕ) → test o ≡ true → (p : ℕ) × Contains entries (record { place = p; option = o })
 
--- an option with its figure
-abbrev pub figured : List ℕ → ℕ → RankedOption
-figured places o = record { option = o; place = slice_index places o }
-
--- the first entries of a group: the options of a set with their figures
-pub record FiguresOptions (places : List ℕ) (test : ℕ → Bool) (entries : List RankedOption) (count : ℕ) : Type 0 where
-  pub few : count ≤ 16
-  pub whole : length entries ≡ 16
-  pub each : (k : ℕ) (d : RankedOption) → k < count → (slice_index_or entries k d ≡ figured places (get_or entries k d).option) × (test (get_or entries k d).option ≡ true)
-  pub all : (o : ℕ) → test o ≡ true → (k : ℕ) × (k < count) × ((d : RankedOption) → (get_or entries k d).option ≡ o)
+-- the option of a set that is given the least place, of those with the same the lowest numbered; none of an empty set
+abbrev pub FirstBy : (ℕ → ℕ → Type 0) → (ℕ → Bool) → Option ℕ → Type 0
+FirstBy given test None = (o : ℕ) → test o ≡ false
+FirstBy given test (Some first) =
+    (test first ≡ true) × (p : ℕ) × given first p × ((o : ℕ) → test o ≡ true → (q : ℕ) × given o q × ((p < q) ⊎ ((p ≡ q) × (first ≤ o))))
 
 -- the option of a set that has the least figure, of those with the same the lowest numbered; none of an empty set
 abbrev pub FirstByPlace : List ℕ → (ℕ → Bool) → Option ℕ → Type 0

@@ -1,14 +1,15 @@
 // The places that a ranking gives to options and rows, and what is best by them.
 #![tactic(auto)]
 
-ghost use Rattle.std.specs.Prelude.{◌≡◌, ℕ, true, false, Decides, MatchOption};
+ghost use Rattle.std.specs.Prelude.{◌≡◌, ℕ, ◌<◌, true, false, Decides, MatchOption};
 ghost use Rattle.masks.specs.Members.{has};
-ghost use Rattle.places.specs.Entries.{RanksRow, RanksOptions, FiguresOptions, is_pair, FirstByPlace, BestOption};
+ghost use Rattle.places.specs.Entries.{RanksRow, PlacesOptions, is_pair, FirstBy, FirstByPlace, BestOption};
 ghost use Rattle.ranking.specs.Orders.{place_of, is_under, RowBefore};
 
+use arrayvec::ArrayVec;
 use entries::{RankedOption, RankedRow};
 use masks::Mask;
-use order::{Ordered, first_of};
+use order::first_of;
 use ranking::Ranking;
 use ranking::questions::is_under;
 use rows::OPEN;
@@ -17,17 +18,13 @@ pub mod entries;
 #[cfg(test)]
 mod tests;
 
+// A line and the entries above it stay two parameters here and below, as in a ranking's own questions.
+
 /// The place of an option on a line, under the entries above it: how many options go before it.
 pub fn place_of<R: Ranking>(ranking: &R, line: usize, above: &[u8], option: u8) -> u8
     ensures { result ≡ place_of (R.Ranking.before ranking.now) line above.now option }
 {
-    let mut place = 0;
-    for other in 0..16u8 {
-        if ranking.goes_before(line, above, other, option) {
-            place += 1;
-        }
-    }
-    place
+    Mask::matching(|other| ranking.goes_before(line, above, other, option)).count()
 }
 
 /// A row with the places of its entries; none of what is no row of at most sixteen lines.
@@ -38,14 +35,13 @@ pub fn ranked_row<R: Ranking>(ranking: &R, row: &[u8]) -> Option<RankedRow>
         return None;
     }
     let mut entries = [RankedOption {
-        option: OPEN,
         place: 0,
+        option: OPEN,
     }; 16];
-    for line in 0..row.len() {
-        let place = place_of(ranking, line, &row[0..line], row[line]);
+    for (line, option) in row.iter().enumerate() {
         entries[line] = RankedOption {
-            option: row[line],
-            place,
+            place: place_of(ranking, line, &row[..line], *option),
+            option: *option,
         };
     }
     Some(RankedRow { entries })
@@ -58,76 +54,46 @@ pub fn row_goes_before<R: Ranking>(ranking: &R, first: &[u8], second: &[u8]) -> 
     if first.len() != second.len() {
         return false;
     }
-    let Some(better) = ranked_row(ranking, first) else {
+    let (Some(better), Some(worse)) = (ranked_row(ranking, first), ranked_row(ranking, second))
+    else {
         return false;
     };
-    let Some(worse) = ranked_row(ranking, second) else {
-        return false;
-    };
-    match first_of(&[worse, better]) {
-        Some(i) => i == 1,
-        None => false,
-    }
+    // The text that finds the first option finds the first row too.
+    first_of(&[worse, better]) == Some(1)
 }
 
-/// Options of one line with their places, as many as are counted.
-#[derive(Clone, Copy)]
-pub struct RankedGroup {
-    entries: [RankedOption; 16],
-    count: usize,
-}
-
-/// The options of a set with their places on a line, under the entries above it.
-fn ranked_options<R: Ranking>(ranking: &R, line: usize, above: &[u8], options: Mask) -> RankedGroup
-    ensures { RanksOptions (R.Ranking.before ranking.now) line above.now (has options) result.entries result.count }
+/// The options of a set, each with the place that it is given.
+fn group_of<F: Fn(u8) -> u8>(options: Mask, place: F) -> ArrayVec<RankedOption, 16>
+    requires { (o : ℕ) → o < 16 → F.pre place o }
+    ensures { PlacesOptions (F.post place) (has options) result.items }
 {
-    let mut entries = [RankedOption {
-        option: OPEN,
-        place: 0,
-    }; 16];
-    let mut count = 0;
-    for option in 0..16u8 {
+    let mut group = ArrayVec::new();
+    for option in 0..16 {
         if options.has(option) {
-            entries[count] = RankedOption {
+            group.push(RankedOption {
+                place: place(option),
                 option,
-                place: place_of(ranking, line, above, option),
-            };
-            count += 1;
+            });
         }
     }
-    RankedGroup { entries, count }
+    group
 }
 
-/// The options of a set with their figures.
-fn figured_options(places: &[u8; 16], options: Mask) -> RankedGroup
-    ensures { FiguresOptions places.now (has options) result.entries result.count }
+/// The option of a set that is given the least place, of those with the same the lowest numbered.
+fn first_by<F: Fn(u8) -> u8>(options: Mask, place: F) -> Option<u8>
+    requires { (o : ℕ) → o < 16 → F.pre place o }
+    ensures { FirstBy (F.post place) (has options) result }
 {
-    let mut entries = [RankedOption {
-        option: OPEN,
-        place: 0,
-    }; 16];
-    let mut count = 0;
-    for option in 0..16u8 {
-        if options.has(option) {
-            entries[count] = RankedOption {
-                option,
-                place: places[option as usize],
-            };
-            count += 1;
-        }
-    }
-    RankedGroup { entries, count }
+    let group = group_of(options, place);
+    let first = first_of(&group)?;
+    Some(group[first].option)
 }
 
 /// The option of a set that has the least figure, of those with the same the lowest numbered.
 pub fn first_by_places(places: &[u8; 16], options: Mask) -> Option<u8>
     ensures { FirstByPlace places.now (has options) result }
 {
-    let group = figured_options(places, options);
-    match first_of(&group.entries[0..group.count]) {
-        Some(first) => Some(group.entries[first].option),
-        None => None,
-    }
+    first_by(options, |option| places[option as usize])
 }
 
 /// The option of a set that goes before every other one in it, on a line and under the entries above it.
@@ -137,9 +103,5 @@ pub fn best_option<R: Ranking>(ranking: &R, line: usize, above: &[u8], options: 
     if !is_under(line, above) {
         return None;
     }
-    let group = ranked_options(ranking, line, above, options);
-    match first_of(&group.entries[0..group.count]) {
-        Some(i) => Some(group.entries[i].option),
-        None => None,
-    }
+    first_by(options, |option| place_of(ranking, line, above, option))
 }

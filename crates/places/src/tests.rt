@@ -1,5 +1,6 @@
 // Places, best options and rows in order.
-use crate::{best_option, first_by_places, place_of, row_goes_before};
+use crate::entries::{RankedOption, entries_are_in_order};
+use crate::{best_option, first_by_places, place_of, ranked_row, row_goes_before};
 use masks::Mask;
 use ranking::condition::Condition;
 use ranking::conditional::ConditionalRanking;
@@ -57,4 +58,29 @@ fn the_parent_orders_the_rows(rt: HostRuntime) {
         ],
         [false, false, false]
     );
+}
+
+#[test]
+fn the_place_orders_the_entries(rt: HostRuntime) {
+    assert!(rt; entries_are_in_order());
+    let ahead = RankedOption {
+        place: 1,
+        option: 9,
+    };
+    let behind = RankedOption {
+        place: 2,
+        option: 0,
+    };
+    assert!(rt; ahead < behind);
+    assert!(rt;
+        ahead
+            < RankedOption {
+                option: 10,
+                ..ahead
+            }
+    );
+    let ranking = ListRanking::new();
+    assert!(rt; ranked_row(&ranking, &[0, 5]) < ranked_row(&ranking, &[1, 0]));
+    assert!(rt; ranked_row(&ranking, &[0, 5]) < ranked_row(&ranking, &[0, 6]));
+    assert!(rt; ranked_row(&ranking, &[16]).is_none());
 }

@@ -1,4 +1,3 @@
 pub mod Pigeons
 pub mod PlanLaws
 pub mod RowOrder
-pub mod WallLaws

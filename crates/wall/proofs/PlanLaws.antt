@@ -1,9 +1,13 @@
 -- The best plan is unique, a plan has one place, and no two plans share one.
-use Rattle.std.proofs.Common.{◌≡◌, ℕ, zero, suc, ◌<◌, ◌≤◌, true, ◌⊎◌, List, [], ◌∷◌, length, get_or, sym, refl, ap, ◌∙◌, inl, inr, ⊎_elim, arith}
+use Rattle.std.proofs.Common.{◌≡◌, ◌≢◌, ℕ, ◌<◌, ◌≤◌, true, ◌⊎◌, List, [], ◌∷◌, ◌++◌, length, get_or, sym, ◌∙◌, inl, inr, ⊎_elim, arith}
+use Rattle.std.specs.List.{Contains}
+use Rattle.std.proofs.lemmas.List.{length_push}
+use Rattle.std.proofs.lemmas.List.Elements.{All-contains, Contains-push_cases}
+use Rattle.std.proofs.lemmas.List.Quantifiers.{all_pairs_push}
 use Rattle.rows.specs.Rows.{is_row}
 use Rattle.rows.proofs.Rows.{row_from}
 use Rattle.ranking.specs.Orders.{IsRanking, RowBefore}
-use Rattle.wall.specs.Plans.{Task, lines_of, Keeps, Best, Place}
+use Rattle.wall.specs.Plans.{Task, lines_of, Keeps, KeepsBefore, Best, Place}
 use Rattle.wall.specs.Theorems.{Proper, OneBest, OnePlace, OwnPlace}
 use Rattle.wall.proofs.RowOrder.{row_never, row_through, row_one}
 use Rattle.wall.proofs.Pigeons.{no_longer}
@@ -30,7 +34,7 @@ one_best t p picks α β a b = one_best_of t p (λ γ. Keeps t γ × (picks γ �
 -- the rows before a row, counted twice
 fewer : (t : Task) (α : List ℕ) (p q : ℕ) → Place t α p → Place t α q → p ≤ q
 fewer t α p q a b =
-    let l = no_longer a.ahead b.ahead [] a.once (λ i l. let k = a.keep i l in b.all (get_or a.ahead i []) k.0 k.1) in
+    let l = no_longer a.ahead b.ahead a.once (λ β h. b.all β (All-contains (KeepsBefore t α) a.ahead β a.keep h)) in
     let e = a.count in
     let f = b.count in
     omega arith
@@ -41,7 +45,8 @@ one_place t proper α p q a b = let l = fewer t α p q a b in let m = fewer t α
 -- what goes before has the smaller place
 pub place_less : (t : Task) → Proper t → (α β : List ℕ) (p q : ℕ) → Keeps t α → Keeps t β → RowBefore t.before α β → Place t α p → Place t β q → p < q
 place_less t proper α β p q ka kb r a b =
-    let l = no_longer (α ∷ a.ahead) b.ahead [] once here in
+    let l = no_longer (a.ahead ++ α ∷ []) b.ahead (all_pairs_push (λ x y. x ≢ y) a.ahead α a.once apart) (λ γ h. ⊎_elim (before γ) (λ (e : α ≡ γ). rw (← e) (b.all α (ka, r))) (Contains-push_cases a.ahead α γ h)) in
+    let n = length_push a.ahead α in
     let e = a.count in
     let f = b.count in
     omega arith
@@ -50,21 +55,13 @@ place_less t proper α β p q ka kb r a b =
     R = proper.ranks
 
     -- α is none of the rows before it
-    apart : (i : ℕ) → i < length a.ahead → α ≡ get_or a.ahead i [] → ⊥
-    apart i l e = row_never t.before R α (rw (← e) at (a.keep i l).1)
+    apart : (i : ℕ) (d : List ℕ) → i < length a.ahead → get_or a.ahead i d ≢ α
+    apart i d l e = row_never t.before R α (rw e at (a.keep i d l).1)
 
-    once : (i k : ℕ) → i < suc (length a.ahead) → k < suc (length a.ahead) → get_or (α ∷ a.ahead) i [] ≡ get_or (α ∷ a.ahead) k [] → i ≡ k
-    once zero zero l m e = refl
-    once zero (suc k) l m e = absurd (apart k (omega arith) e)
-    once (suc i) zero l m e = absurd (apart i (omega arith) (sym e))
-    once (suc i) (suc k) l m e = ap suc (a.once i k (omega arith) (omega arith) e)
-
-    here : (i : ℕ) → i < suc (length a.ahead) → (j : ℕ) × (j < length b.ahead) × (get_or b.ahead j [] ≡ get_or (α ∷ a.ahead) i [])
-    here zero l = b.all α ka r
-    here (suc i) l =
-        let k = a.keep i (omega arith) in
-        let γ = get_or a.ahead i [] in
-        b.all γ k.0 (row_through t.before R γ α β (same_length t γ α k.0 ka) k.1 r)
+    before : (γ : List ℕ) → Contains a.ahead γ → Contains b.ahead γ
+    before γ h =
+        let k = All-contains (KeepsBefore t α) a.ahead γ a.keep h in
+        b.all γ (k.0, row_through t.before R γ α β (same_length t γ α k.0 ka) k.1 r)
 
 pub own_place : OwnPlace
 own_place t proper α β p ka kb a b =

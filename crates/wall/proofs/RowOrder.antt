@@ -1,5 +1,5 @@
 -- Going before is a strict total order of the rows of a wall, for every ranking.
-use Rattle.std.proofs.Common.{◌≡◌, ℕ, zero, suc, ◌<◌, ◌≤◌, Bool, true, false, not, ◌⊎◌, List, length, get_or, take, sym, refl, ap, ◌∙◌, inl, inr, ⊎_elim, add-one, arith}
+use Rattle.std.proofs.Common.{◌≡◌, ℕ, zero, suc, ◌<◌, ◌≤◌, Bool, true, false, ◌⊎◌, List, length, get_or, take, sym, refl, ap, ◌∙◌, inl, inr, ⊎_elim, add-one, arith}
 use Rattle.std.proofs.lemmas.List.{get_or-take, take-take, take_all, take_more_same}
 use Rattle.std.proofs.lemmas.Bool.{cases_eq, cases_Bool, cases_order, both_ways}
 use Rattle.rows.specs.Rows.{is_row}
@@ -38,32 +38,16 @@ module _ (before : ℕ → List ℕ → ℕ → ℕ → Bool) (R : IsRanking bef
   row_through α β γ len r s =
       ⊎_elim
       (λ (e : k ≡ m).
-      let front = rw (← e) at s.above in
-      record {
-        line = k;
-        within = r.within;
-        above = r.above ∙ front;
-        here = R.through k (take k α) (get_or α k 0) (get_or β k 0) (get_or γ k 0) r.here
-            (ap (λ (t : List ℕ). before k t (get_or β k 0) (get_or γ k 0)) r.above ∙ rw (← e) at s.here);
-      })
+      record { line = k; within = r.within; above = cc; here = R.through k (take k α) (get_or α k 0) (get_or β k 0) (get_or γ k 0) r.here (cc) })
       (⊎_elim
       (λ (l : k < m).
-      record {
-        line = k;
-        within = r.within;
-        above = r.above ∙ same_front β γ m k s.above (omega arith);
-        here = ap (before k (take k α) (get_or α k 0)) (sym (same_entry β γ m k s.above l)) ∙ r.here;
-      })
+      let front = same_front β γ m k s.above (omega arith) in
+      let entry = same_entry β γ m k s.above l in
+      record { line = k; within = r.within; above = cc; here = cc })
       (λ (l : m < k).
-      let w = r.within in
       let front = same_front α β k m r.above (omega arith) in
       let entry = same_entry α β k m r.above l in
-      record {
-        line = m;
-        within = omega arith;
-        above = front ∙ s.above;
-        here = ap (λ (t : List ℕ). before m t (get_or α m 0) (get_or γ m 0)) front ∙ ap (λ (x : ℕ). before m (take m β) x (get_or γ m 0)) entry ∙ s.here;
-      }))
+      record { line = m; within = (let w = s.within in omega arith); above = cc; here = cc }))
       (cases_order k m)
     where
       k : ℕ
@@ -81,11 +65,10 @@ module _ (before : ℕ → List ℕ → ℕ → ℕ → Bool) (R : IsRanking bef
       let under = under_from k (take k α) (omega arith) (row_take n k α p (omega arith)) in
       let asked = asked_from k (take k α) (get_or α k 0) (get_or β k 0) under (row_option n α p k 0 l) (row_option n β q k 0 l) in
       let back = asked_from k (take k α) (get_or β k 0) (get_or α k 0) under (row_option n β q k 0 l) (row_option n α p k 0 l) in
+      let turned = R.one k (take k α) (get_or β k 0) (get_or α k 0) back (λ h. ne (sym h)) in
       ⊎_elim
       (λ (t : before k (take k α) (get_or α k 0) (get_or β k 0) ≡ true). inl (record { line = k; within = omega arith; above = e; here = t }))
-      (λ (t : before k (take k α) (get_or α k 0) (get_or β k 0) ≡ false).
-      let turned : before k (take k α) (get_or β k 0) (get_or α k 0) ≡ true = R.one k (take k α) (get_or β k 0) (get_or α k 0) back (λ h. ne (sym h)) ∙ ap not t in
-      inr (record { line = k; within = omega arith; above = sym e; here = ap (λ (u : List ℕ). before k u (get_or β k 0) (get_or α k 0)) (sym e) ∙ turned }))
+      (λ (t : before k (take k α) (get_or α k 0) (get_or β k 0) ≡ false). inr (record { line = k; within = omega arith; above = sym e; here = cc }))
       (cases_Bool (before k (take k α) (get_or α k 0) (get_or β k 0)))
 
   pub row_one : (n : ℕ) (α β : List ℕ) → n ≤ 16 → is_row n α ≡ true → is_row n β ≡ true → (α ≡ β) ⊎ (RowBefore before α β ⊎ RowBefore before β α)

@@ -1,4 +1,5 @@
 pub mod Acts
 pub mod Plans
+pub mod Refusals
 pub mod Rules
 pub mod Theorems

@@ -1,5 +1,5 @@
 -- Plans: rows that keep the rules, in their order.
-use Rattle.std.specs.Prelude.{◌≡◌, ℕ, ◌+◌, ◌-◌, ◌<◌, Bool, true, false, ◌⊎◌, List, [], length, take, drop, replicate, None, Option, MatchOption, slice_index, slice_index_or}
+use Rattle.std.specs.Prelude.{◌≡◌, ◌≢◌, ℕ, ◌+◌, ◌-◌, ◌<◌, Bool, true, false, ◌⊎◌, List, length, take, drop, replicate, None, Option, MatchOption, slice_index, slice_index_or, All, AllPairs, Contains}
 use Rattle.masks.specs.declared.Mask.{Mask}
 use Rattle.ranking.specs.Orders.{RowBefore}
 use Rattle.wall.specs.declared.bars.Bars.{Bars}
@@ -31,31 +31,35 @@ pub record Keeps (t : Task) (row : List ℕ) : Type 0 where
   pub paired : (k : ℕ) → is_allowed (slice_index_or t.rules k None) row ≡ true
   pub passed : t.passes (lines_of t) row ≡ true
 
--- α is one of the rows that P picks, and goes before every other one
-abbrev pub Best : Task → (List ℕ → Type 0) → List ℕ → Type 0
-Best t P α = P α × ((β : List ℕ) → P β → (α ≡ β) ⊎ RowBefore t.before α β)
-
 -- the rows that keep the rules and come after a given row
 abbrev pub KeepsAfter : Task → List ℕ → List ℕ → Type 0
 KeepsAfter t given β = Keeps t β × RowBefore t.before given β
 
--- what a search among the rows that P picks answers: the best, filled up with 255, or none where there is none
-abbrev pub Answers : Task → (List ℕ → Type 0) → Option (List ℕ) → Type 0
-Answers t P r = MatchOption r ((β : List ℕ) → P β → ⊥) (λ row. Best t P (take (lines_of t) row) × (drop (lines_of t) row ≡ replicate (16 - lines_of t) 255))
+-- the rows that keep the rules and go before a given row
+abbrev pub KeepsBefore : Task → List ℕ → List ℕ → Type 0
+KeepsBefore t given β = Keeps t β × RowBefore t.before β given
 
 -- α is one of the rows that P picks, and goes before every other one, by an order
 abbrev pub First : (ℕ → List ℕ → ℕ → ℕ → Bool) → (List ℕ → Type 0) → List ℕ → Type 0
 First before P α = P α × ((β : List ℕ) → P β → (α ≡ β) ⊎ RowBefore before α β)
 
+-- the best of the rows that P picks, by the ranking of a task
+abbrev pub Best : Task → (List ℕ → Type 0) → List ℕ → Type 0
+Best t P α = First t.before P α
+
 -- what a search among the rows of n lines that P picks answers: the first, filled up with 255, or none where there is none
 abbrev pub Finds : ℕ → (ℕ → List ℕ → ℕ → ℕ → Bool) → (List ℕ → Type 0) → Option (List ℕ) → Type 0
 Finds n before P r = MatchOption r ((β : List ℕ) → P β → ⊥) (λ row. First before P (take n row) × (drop n row ≡ replicate (16 - n) 255))
+
+-- what a search among the rows that P picks answers: the best, filled up with 255, or none where there is none
+abbrev pub Answers : Task → (List ℕ → Type 0) → Option (List ℕ) → Type 0
+Answers t P r = Finds (lines_of t) t.before P r
 
 -- the place of a row: one more than the number of rule-keeping rows that go before it
 pub record Place (t : Task) (α : List ℕ) (place : ℕ) : Type 0 where
   -- the rows before it, none of them twice
   pub ahead : List (List ℕ)
-  pub once : (i j : ℕ) → i < length ahead → j < length ahead → slice_index_or ahead i [] ≡ slice_index_or ahead j [] → i ≡ j
-  pub keep : (i : ℕ) → i < length ahead → Keeps t (slice_index_or ahead i []) × RowBefore t.before (slice_index_or ahead i []) α
-  pub all : (β : List ℕ) → Keeps t β → RowBefore t.before β α → (i : ℕ) × (i < length ahead) × (slice_index_or ahead i [] ≡ β)
+  pub once : AllPairs (λ β γ. β ≢ γ) ahead
+  pub keep : All (KeepsBefore t α) ahead
+  pub all : (β : List ℕ) → KeepsBefore t α β → Contains ahead β
   pub count : place ≡ length ahead + 1

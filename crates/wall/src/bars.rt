@@ -11,6 +11,7 @@ pub struct Bars {
     pub masks: [Mask; 16],
 }
 
+// A line and an option stay two numbers: a struct of them would have no method of its own.
 impl Bars {
     /// Nothing is barred.
     pub fn none() -> Bars
@@ -25,13 +26,16 @@ impl Bars {
     pub fn is_barred(&self, line: usize, option: u8) -> bool
         ensures { result ≡ (nat_lt line 16 && is_barred self.now.masks line option) }
     {
-        line < 16 && self.masks[line].has(option)
+        self.masks
+            .get(line)
+            .is_some_and(|barred| barred.has(option))
     }
 
     /// Bars an option of a line; what is no line or no option changes nothing.
     pub fn bar(&mut self, line: usize, option: u8)
         ensures { (l o : ℕ) → l < 16 → is_barred self.new.masks l o ≡ (is_barred self.old.masks l o || (l == line && (is_option o && o == option))) }
     {
+        // After `get_mut` of an array the check knows its length and no entry.
         if line < 16 {
             self.masks[line] = self.masks[line].with(option);
         }
@@ -41,6 +45,7 @@ impl Bars {
     pub fn clear(&mut self, line: usize, option: u8)
         ensures { (l o : ℕ) → l < 16 → is_barred self.new.masks l o ≡ (is_barred self.old.masks l o && not (l == line && o == option)) }
     {
+        // After `get_mut` of an array the check knows its length and no entry.
         if line < 16 {
             self.masks[line] = self.masks[line].without(option);
         }
