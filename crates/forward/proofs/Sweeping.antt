@@ -1,5 +1,5 @@
 -- The sweep over the open lines, way by way and line by line.
-use Rattle.std.proofs.Common.{◌≡◌, ℕ, ◌+◌, ◌<◌, ◌≤◌, true, false, not, ◌&&◌, ◌||◌, eqb, ltb, List, [], length, get_or, set, Some, None, sym, refl, ap, ◌∙◌, inl, inr, ⊎_elim, arith}
+use Rattle.std.proofs.Common.{◌≡◌, ℕ, ◌+◌, ◌<◌, ◌≤◌, true, false, not, ◌&&◌, ◌||◌, eqb, ltb, List, [], length, get_or, set, Ok, Err, sym, refl, ap, ◌∙◌, inl, inr, ⊎_elim, arith}
 use Rattle.std.proofs.lemmas.List.{get_or-set_same, get_or-set_other, length-set}
 use Rattle.std.proofs.lemmas.Bool.{cases_eq, cases_Bool, both_ways, and_parts, and_from, eq-eqb, ne_eqb, eqb-true, lt-ltb, or_cases, or_left, or_right, not_from_false}
 use Rattle.masks.specs.declared.Mask.{Mask}
@@ -190,7 +190,7 @@ module _ (r : Rules) (line x : ℕ) (row : List ℕ) (old was : List Mask) (few 
       }
 
       -- nothing is left of it: it is the first such line
-      pub swept_dead : ((y : ℕ) → has mask y ≡ false) → Dead r line x row (set new k mask) (Some k)
+      pub swept_dead : ((y : ℕ) → has mask y ≡ false) → Dead r line x row (set new k mask) (Err k)
       swept_dead none = (
         l,
         o,
@@ -198,6 +198,14 @@ module _ (r : Rules) (line x : ℕ) (row : List ℕ) (old was : List Mask) (few 
         λ other m open'. (let a = h.alive other m open' in let e : other ≡ k → ⊥ = omega arith in (a.0, rw (mask_other other e) a.1)),
       )
 
+      -- and the sweep ends there
+      pub swept_stop : ((y : ℕ) → has mask y ≡ false) → (masks causes : List Mask) → (masks ≡ set new k mask) × (causes ≡ set is k cause) → Swept r row old was masks causes × Dead r line x row masks (Err k)
+      swept_stop none masks causes put = rw (put.0, put.1) (swept_open, swept_dead none)
+
+      -- it goes on
+      pub swept_on : (y : ℕ) → has mask y ≡ true → (masks causes : List Mask) → (masks ≡ set new k mask) × (causes ≡ set is k cause) → SweptTo r line x row (k + 1) old was masks causes
+      swept_on y t masks causes put = rw (put.0, put.1) (swept_more y t)
+
   -- all lines are swept
-  pub swept_all : (k : ℕ) (new is : List Mask) → SweptTo r line x row k old was new is → r.lines ≤ k → Dead r line x row new None
+  pub swept_all : (k : ℕ) (new is : List Mask) → SweptTo r line x row k old was new is → r.lines ≤ k → Dead r line x row new (Ok tt)
   swept_all k new is h m = (λ other way y l o. h.tied other way y (omega arith) o, λ other l o. h.alive other (omega arith) o)

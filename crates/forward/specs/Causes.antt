@@ -1,8 +1,10 @@
 -- Why options are gone: the chosen lines that took them.
-use Rattle.std.specs.Prelude.{◌≡◌, ℕ, ◌<◌, Bool, true, false, ◌&&◌, ◌⊎◌, List, Some, None, Option, ◌==◌, nat_le, nat_lt, slice_index, slice_index_or}
+use Rattle.std.specs.Prelude.{◌≡◌, ℕ, ◌<◌, Bool, true, false, ◌&&◌, ◌⊎◌, List, Ok, Err, Result, ◌==◌, nat_le, nat_lt, slice_index, slice_index_or}
 use Rattle.masks.specs.declared.Mask.{Mask}
 use Rattle.masks.specs.Members.{is_option, has}
 use Rattle.wall.specs.Rules.{no_options}
+use Rattle.forward.specs.declared.Choice.{Choice}
+use Rattle.forward.specs.declared.Level.{Level}
 use Rattle.forward.specs.Fits.{Rules, Leads, Leaves, Fits, Left, Chosen, Open}
 
 -- β has what is chosen on each line of a set of lines
@@ -24,21 +26,25 @@ pub record Swept (r : Rules) (row : List ℕ) (old was new is : List Mask) : Typ
 abbrev pub Tied : Rules → ℕ → ℕ → List ℕ → List Mask → Type 0
 Tied r line x row masks = (other way y : ℕ) → other < r.lines → Open row other → Leads r line other way → Left masks other y → Leaves r way x y
 
--- the first open line with nothing left; none if each has something left, and then all that is left goes with the choice
-abbrev pub Dead : Rules → ℕ → ℕ → List ℕ → List Mask → Option ℕ → Type 0
-Dead r line x row masks None = Tied r line x row masks × ((other : ℕ) → other < r.lines → Open row other → (y : ℕ) × Left masks other y)
-Dead r line x row masks (Some dead) =
+-- the first open line with nothing left as the error; none if each has something left, and then all that is left goes with the choice
+abbrev pub Dead : Rules → ℕ → ℕ → List ℕ → List Mask → Result (Unit {0}) ℕ → Type 0
+Dead r line x row masks (Ok _) = Tied r line x row masks × ((other : ℕ) → other < r.lines → Open row other → (y : ℕ) × Left masks other y)
+Dead r line x row masks (Err dead) =
     (dead < r.lines) × Open row dead × ((y : ℕ) → has (slice_index_or masks dead no_options) y ≡ false) × ((other : ℕ) → other < dead → Open row other → (y : ℕ) × Left masks other y)
 
 -- a choice: an option of a line of the wall, which the row has there
 abbrev pub is_choice : ℕ → List ℕ → ℕ → ℕ → Bool
 is_choice n row line option = (nat_le n 16 && nat_lt line n) && (is_option option && slice_index row line == option)
 
+-- what the sweep after a choice leaves and answers
+abbrev pub Sweeps : Rules → List ℕ → Choice → Level → Level → Result (Unit {0}) ℕ → Type 0
+Sweeps r row choice was is answer = Swept r row was.masks was.causes is.masks is.causes × Dead r choice.line choice.option row is.masks answer
+
 -- what the forward check of a choice leaves and answers; of what is no choice nothing is changed
-abbrev pub Checked : Rules → List ℕ → ℕ → ℕ → List Mask → List Mask → List Mask → List Mask → Option ℕ → Type 0
-Checked r row line option old was new is answer =
-    (is_choice r.lines row line option ≡ true → Swept r row old was new is × Dead r line option row new answer)
-    × (is_choice r.lines row line option ≡ false → (new ≡ old) × (is ≡ was) × (answer ≡ None))
+abbrev pub Checked : Rules → List ℕ → Choice → Level → Level → Result (Unit {0}) ℕ → Type 0
+Checked r row choice was is answer =
+    (is_choice r.lines row choice.line choice.option ≡ true → Sweeps r row choice was is answer)
+    × (is_choice r.lines row choice.line choice.option ≡ false → (is ≡ was) × (answer ≡ Ok tt))
 
 -- the causes of a line after something may have been taken from it: the same, with the lines that took it
 pub record Blame (causes before after more r : Mask) : Type 0 where

@@ -1,19 +1,17 @@
 // The forward check: after a choice, pair rules and strikes shrink the options of each open line.
 #![tactic(auto)]
 
-ghost use Rattle.std.specs.Prelude.{◌≡◌, ℕ, ◌<◌, ◌≤◌, true, false, not, ◌&&◌, nat_lt, slice_index};
-ghost use Rattle.forward.specs.Causes.{is_choice, Checked, Swept, Dead, Blame, Settled};
+ghost use Rattle.std.specs.Prelude.{◌≡◌, ℕ, ◌<◌, ◌≤◌, true, false, not, ◌&&◌, nat_lt, slice_index, slice_index_or, slice_set};
+ghost use Rattle.forward.specs.Causes.{is_choice, Checked, Sweeps, Blame, Settled};
 ghost use Rattle.forward.specs.Fits.{rules_of};
 ghost use Rattle.masks.specs.Members.{has};
 ghost use Rattle.rows.specs.Rows.{is_open};
+ghost use Rattle.wall.specs.Rules.{no_options};
 
 use house::HouseRule;
 use masks::Mask;
 use network::Network;
 use rows::OPEN;
-
-#[cfg(test)]
-mod tests;
 
 /// The options that a line has left, and the chosen lines that took the others.
 #[derive(Clone, Copy)]
@@ -22,25 +20,43 @@ pub struct Share {
     pub causes: Mask,
 }
 
-/// Whether a line of a row of n lines is chosen.
-fn is_chosen(n: usize, row: &[u8; 16], line: usize) -> bool
-    requires { line < 16 }
-    ensures { result ≡ (nat_lt line n && not (is_open (slice_index row.now line))) }
-{
-    line < n && row[line] != OPEN
+/// What so many choices leave: the options of each line, and for each line the chosen lines that took the others.
+// Two arrays, as every choice works on its own copy of sixteen option sets.
+#[derive(Clone, Copy)]
+pub struct Level {
+    pub masks: [Mask; 16],
+    pub causes: [Mask; 16],
+}
+
+/// An option of a line.
+#[derive(Clone, Copy)]
+pub struct Choice {
+    pub line: usize,
+    pub option: u8,
+}
+
+impl Choice {
+    /// Whether a row of n lines, at most sixteen, has the option on the line.
+    pub fn stands_in(self, n: usize, row: &[u8; 16]) -> bool
+        ensures { result ≡ is_choice n row.now self.line self.option }
+    {
+        n <= 16 && self.line < n && self.option < 16 && row[self.line] == self.option
+    }
+}
+
+/// What a row has to fit: so many lines, the ways between them, and a house rule.
+#[derive(Drop)]
+pub struct Rulebook<'a, H> {
+    pub lines: usize,
+    pub net: &'a Network,
+    pub house: &'a H,
 }
 
 /// The lines that are chosen in a row of n lines.
 pub fn chosen_lines(n: usize, row: &[u8; 16]) -> Mask
     ensures { (line : ℕ) → has result line ≡ (nat_lt line 16 && (nat_lt line n && not (is_open (slice_index row.now line)))) }
 {
-    let mut chosen = Mask::none();
-    for line in 0..16u8 {
-        if is_chosen(n, row, line as usize) {
-            chosen = chosen.with(line);
-        }
-    }
-    chosen
+    Mask::matching(|line| (line as usize) < n && row[line as usize] != OPEN)
 }
 
 /// The causes, with more lines where something was taken.
@@ -54,99 +70,99 @@ fn blame(causes: Mask, before: Mask, after: Mask, more: Mask) -> Mask
     }
 }
 
-/// What the house rule leaves of an open line after the pair rules have left `ruled` of it, and who took the others.
-fn settle<H: HouseRule>(
-    house: &H,
-    n: usize,
-    row: &[u8; 16],
-    line: usize,
-    other: usize,
-    was: Share,
-    ruled: Mask,
-) -> Share
-    requires few { n ≤ 16 }
-    requires line { line < 16 }
-    ensures { Settled (H.HouseRule.passing house.now) n row.now line other was.left was.causes ruled result.left result.causes }
-{
-    let struck = house.strikes(n, &row[0..n], other);
-    let left = ruled.minus(struck);
-    let by_rules = blame(was.causes, was.left, ruled, Mask::only(line as u8));
-    Share {
-        left,
-        causes: blame(by_rules, ruled, left, chosen_lines(n, row)),
+impl Level {
+    /// What a line has left.
+    fn share(&self, line: usize) -> Share
+        requires { line < 16 }
+        ensures { (result.left ≡ slice_index_or self.now.masks line no_options) × (result.causes ≡ slice_index_or self.now.causes line no_options) }
+    {
+        Share {
+            left: self.masks[line],
+            causes: self.causes[line],
+        }
+    }
+
+    /// Writes what a line has left in place of what it had.
+    fn put(&mut self, line: usize, share: Share)
+        requires { line < 16 }
+        ensures { (self.new.masks ≡ slice_set self.old.masks line share.left) × (self.new.causes ≡ slice_set self.old.causes line share.causes) }
+    {
+        self.masks[line] = share.left;
+        self.causes[line] = share.causes;
     }
 }
 
-/// After an option was chosen on a line: takes from each open line what does not go with it, and stops at the first that has nothing left, which is the answer.
-fn sweep<H: HouseRule>(
-    net: &Network,
-    house: &H,
-    n: usize,
-    row: &[u8; 16],
-    line: usize,
-    option: u8,
-    masks: &mut [Mask; 16],
-    causes: &mut [Mask; 16],
-) -> Option<usize>
-    requires few { n ≤ 16 }
-    requires line { line < n }
-    requires option { option < 16 }
-    requires chosen { slice_index row.now line ≡ option }
-    ensures swept { Swept (rules_of n net.now (H.HouseRule.passing house.now)) row.now masks.old causes.old masks.new causes.new }
-    ensures dead { Dead (rules_of n net.now (H.HouseRule.passing house.now)) line option row.now masks.new result }
-{
-    'sweep: {
-        for other in 0..n {
-            if row[other] == OPEN {
-                let was = Share {
-                    left: masks[other],
-                    causes: causes[other],
-                };
-                let mut ruled = was.left;
-                let mut ways = net.between(line, other);
-                while let Some((way, rest)) = ways.split() {
-                    ways = rest;
-                    ruled = ruled.both(net.left(way, option));
-                    if ruled.is_empty() {
-                        masks[other] = ruled;
-                        causes[other] = was.causes.with(line as u8);
-                        break 'sweep Some(other);
+impl<'a, H: HouseRule> Rulebook<'a, H> {
+    /// The forward check: after a choice, takes from each open line what does not go with it, and stops at the first that has nothing left, which is the error. What is no choice of the row changes nothing.
+    pub fn check_forward(
+        &self,
+        row: &[u8; 16],
+        choice: Choice,
+        level: &mut Level,
+    ) -> Result<(), usize>
+        ensures { Checked (rules_of self.now.lines self.now.net.now (H.HouseRule.passing self.now.house.now)) row.now choice level.old level.new result }
+    {
+        if choice.stands_in(self.lines, row) {
+            self.sweep(row, choice, level)
+        } else {
+            Ok(())
+        }
+    }
+
+    /// The same of a choice of the row.
+    fn sweep(&self, row: &[u8; 16], choice: Choice, level: &mut Level) -> Result<(), usize>
+        requires few { self.now.lines ≤ 16 }
+        requires line { choice.line < self.now.lines }
+        requires option { choice.option < 16 }
+        requires chosen { slice_index row.now choice.line ≡ choice.option }
+        ensures { Sweeps (rules_of self.now.lines self.now.net.now (H.HouseRule.passing self.now.house.now)) row.now choice level.old level.new result }
+    {
+        let Choice { line, option } = choice;
+        'sweep: {
+            for (other, entry) in row[..self.lines].iter().enumerate() {
+                if *entry == OPEN {
+                    let was = level.share(other);
+                    let mut ruled = was.left;
+                    for way in self.net.between(line, other) {
+                        ruled = ruled.both(self.net.left(way, option));
+                        if ruled.is_empty() {
+                            let causes = was.causes.with(line as u8);
+                            level.put(
+                                other,
+                                Share {
+                                    left: ruled,
+                                    causes,
+                                },
+                            );
+                            break 'sweep Err(other);
+                        }
+                    }
+                    let share = self.settle(row, line, other, was, ruled);
+                    level.put(other, share);
+                    if share.left.is_empty() {
+                        break 'sweep Err(other);
                     }
                 }
-                let share = settle(house, n, row, line, other, was, ruled);
-                masks[other] = share.left;
-                causes[other] = share.causes;
-                if share.left.is_empty() {
-                    break 'sweep Some(other);
-                }
             }
+            Ok(())
         }
-        None
+    }
+
+    /// What the house rule leaves of an open line after the pair rules have left `ruled` of it, and who took the others.
+    fn settle(&self, row: &[u8; 16], line: usize, other: usize, was: Share, ruled: Mask) -> Share
+        requires few { self.now.lines ≤ 16 }
+        requires line { line < 16 }
+        ensures { Settled (H.HouseRule.passing self.now.house.now) self.now.lines row.now line other was.left was.causes ruled result.left result.causes }
+    {
+        let struck = self.house.strikes(self.lines, &row[..self.lines], other);
+        let left = ruled.minus(struck);
+        let by_rules = blame(was.causes, was.left, ruled, Mask::only(line as u8));
+        Share {
+            left,
+            causes: blame(by_rules, ruled, left, chosen_lines(self.lines, row)),
+        }
     }
 }
 
-/// Whether a row of n lines has an option on a line.
-pub fn is_choice(n: usize, row: &[u8; 16], line: usize, option: u8) -> bool
-    ensures { result ≡ is_choice n row.now line option }
-{
-    n <= 16 && line < n && option < 16 && row[line] == option
-}
-
-/// The forward check: after an option was chosen on a line, takes from each open line what does not go with it, and stops at the first that has nothing left, which is the answer. What is no choice changes nothing.
-pub fn check_forward<H: HouseRule>(
-    net: &Network,
-    house: &H,
-    n: usize,
-    row: &[u8; 16],
-    line: usize,
-    option: u8,
-    masks: &mut [Mask; 16],
-    causes: &mut [Mask; 16],
-) -> Option<usize>
-    ensures { Checked (rules_of n net.now (H.HouseRule.passing house.now)) row.now line option masks.old causes.old masks.new causes.new result }
-{
-    if !is_choice(n, row, line, option) {
-        return None;
-    }
-    sweep(net, house, n, row, line, option, masks, causes)
-}
+#[cfg(test)]
+mod tests;

@@ -1,5 +1,5 @@
 -- The laws of sets of ways. Assumes nothing.
-use Rattle.std.proofs.Common.{◌≡◌, ℕ, ◌*◌, ◌%◌, ◌^◌, ◌<◌, ◌≤◌, Bool, true, false, not, ◌&&◌, ◌||◌, eqb, ltb, sym, refl, ap, ◌∙◌, ⊎_elim, arith}
+use Rattle.std.proofs.Common.{◌≡◌, ℕ, ◌*◌, ◌%◌, ◌^◌, ◌<◌, ◌≤◌, Bool, true, false, Some, not, ◌&&◌, ◌||◌, eqb, ltb, sym, refl, ap, ◌∙◌, ⊎_elim, arith}
 use lib.Bits.{bit_and, bit_or, bit_xor}
 use lib.Count.{count_trailing_zeros, trailing_of_zero}
 use Rattle.std.proofs.lemmas.Nat.{one_shl}
@@ -8,7 +8,7 @@ use Rattle.masks.specs.Members.{bit_of, how_many}
 use Rattle.masks.proofs.Bits.{bit_of_none, bit_of_pow, bit_of_or, bit_of_minus, zeros_bits}
 use Rattle.masks.proofs.Counts.{how_many_less}
 use Rattle.network.specs.declared.ways.WaySet.{WaySet}
-use Rattle.network.specs.Ways.{has_way, no_ways}
+use Rattle.network.specs.Ways.{has_way, no_ways, SplitOff}
 
 pub way_none : (k : ℕ) → has_way no_ways k ≡ false
 unfolding has_way
@@ -54,6 +54,15 @@ lowest_way s fits l =
     (λ (e : s.bits ≡ 0). let z : count_trailing_zeros 64 s.bits ≡ 64 = ap (count_trailing_zeros 64) e ∙ trailing_of_zero 64 in absurd (omega arith))
     (λ (e : s.bits ≡ 0 → ⊥). and_from (ltb (count_trailing_zeros 64 s.bits) 48) (bit_of s.bits (count_trailing_zeros 64 s.bits)) (lt-ltb _ 48 l) (zeros_bits 64 s.bits (omega arith) fits).0)
     (cases_eq s.bits 0)
+
+-- the lowest way apart from the others
+pub lowest_apart : (s : WaySet) → s.bits < 2 ^ 64 → count_trailing_zeros 64 s.bits < 48
+    → let way = count_trailing_zeros 64 s.bits in let rest : WaySet = record { bits = bit_xor s.bits (bit_and s.bits ((1 * 2 ^ way) % 2 ^ 64)) } in SplitOff s (Some way) rest
+lowest_apart s fits l =
+    let way = count_trailing_zeros 64 s.bits in
+    let here = lowest_way s fits l in
+    let others = λ (k : ℕ). way_less s way k l in
+    (here, others, fewer_ways s _ way here others)
 
 pub no_way : (s : WaySet) → s.bits < 2 ^ 64 → 48 ≤ count_trailing_zeros 64 s.bits → (k : ℕ) → has_way s k ≡ false
 unfolding has_way

@@ -20,13 +20,17 @@ abbrev pub allows_at : Option PairRule → ℕ → ℕ → Bool
 allows_at None x y = false
 allows_at (Some rule) x y = allows rule x y
 
--- way k below 24 follows the rule at index k from its first line to its second; way 24 + k follows it back
+-- a meaning of rules for two values, by a way: way k below 24 follows the rule at index k from its first line to its second; way 24 + k follows it back
+abbrev pub by_way : (Option PairRule → ℕ → ℕ → Bool) → List (Option PairRule) → ℕ → ℕ → ℕ → Bool
+by_way meaning rules way a b = cond (nat_lt way 24) (meaning (slice_index_or rules way None) a b) (meaning (slice_index_or rules (way - 24) None) b a)
+
+-- a way leads from a line to another
 abbrev pub leads : List (Option PairRule) → ℕ → ℕ → ℕ → Bool
-leads rules way line other = cond (nat_lt way 24) (is_from (slice_index_or rules way None) line other) (is_from (slice_index_or rules (way - 24) None) other line)
+leads = by_way is_from
 
 -- option x on the line where a way starts leaves option y to the line where it leads
 abbrev pub permits : List (Option PairRule) → ℕ → ℕ → ℕ → Bool
-permits rules way x y = cond (nat_lt way 24) (allows_at (slice_index_or rules way None) x y) (allows_at (slice_index_or rules (way - 24) None) y x)
+permits = by_way allows_at
 
 -- no way
 abbrev pub no_ways : WaySet
@@ -37,15 +41,10 @@ pub record IsNetwork (rules : List (Option PairRule)) (ways : List (List WaySet)
   pub joined : (line other way : ℕ) → line < 16 → other < 16 → has_way (slice_index_or (slice_index_or ways line []) other no_ways) way ≡ (nat_lt way 48 && leads rules way line other)
   pub left : (way x y : ℕ) → way < 48 → x < 16 → has (slice_index_or (slice_index_or tables way []) x no_options) y ≡ (is_option y && permits rules way x y)
 
--- a way of the set and the set without it; nothing exactly of the empty set
-abbrev pub SplitOff : WaySet → Option (ℕ × WaySet) → Type 0
-SplitOff s None = (k : ℕ) → has_way s k ≡ false
-SplitOff s (Some p) = (has_way s p.0 ≡ true) × ((k : ℕ) → has_way p.1 k ≡ (has_way s k && not (k == p.0))) × (how_many (has_way p.1) 48 < how_many (has_way s) 48)
-
--- one way more, between two lines
-abbrev pub Marked : ℕ → ℕ → ℕ → List (List WaySet) → List (List WaySet) → Type 0
-Marked from to way was is = (line other k : ℕ)
-    → has_way (slice_index_or (slice_index_or is line []) other no_ways) k ≡ (has_way (slice_index_or (slice_index_or was line []) other no_ways) k || ((line == from && other == to) && (nat_lt k 48 && k == way)))
+-- a way of a set and the set without it; none exactly of the empty set, which stays
+abbrev pub SplitOff : WaySet → Option ℕ → WaySet → Type 0
+SplitOff s None rest = ((k : ℕ) → has_way s k ≡ false) × (rest ≡ s)
+SplitOff s (Some way) rest = (has_way s way ≡ true) × ((k : ℕ) → has_way rest k ≡ (has_way s k && not (k == way))) × (how_many (has_way rest) 48 < how_many (has_way s) 48)
 
 -- one rule more, at index k
 pub record RulePut (k : ℕ) (rule : PairRule) (ways ways' : List (List WaySet)) (tables tables' : List (List Mask)) : Type 0 where

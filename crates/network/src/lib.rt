@@ -3,7 +3,7 @@
 
 ghost use Rattle.std.specs.Prelude.{◌≡◌, ℕ, ◌+◌, ◌<◌, ◌≤◌, true, false, ◌&&◌, ◌||◌, [], length, ◌==◌, nat_lt, slice_index_or};
 ghost use Rattle.masks.specs.Members.{is_option, has};
-ghost use Rattle.network.specs.Ways.{has_way, no_ways, IsNetwork, Marked, RulePut};
+ghost use Rattle.network.specs.Ways.{has_way, no_ways, IsNetwork, RulePut};
 ghost use Rattle.wall.specs.Rules.{no_options};
 
 use masks::Mask;
@@ -20,59 +20,34 @@ pub mod ways;
 pub struct Network {
     ways: [[WaySet; 16]; 16],
     tables: [[Mask; 16]; 48],
+    // Known of each row, a write into a row is known too.
+    ghost rows: { (line : ℕ) → line < 16 → length (slice_index_or ways line []) ≡ 16 },
 }
 
 /// The options of the first line that a table allows beside an option of the second.
 fn column(table: &[Mask; 16], option: u8) -> Mask
     ensures { (x : ℕ) → has result x ≡ (is_option x && has (slice_index_or table.now x no_options) option) }
 {
-    let mut allowed = Mask::none();
-    for first in 0..16u8 {
-        if table[first as usize].has(option) {
-            allowed = allowed.with(first);
-        }
-    }
-    allowed
+    Mask::matching(|first| table[first as usize].has(option))
 }
 
 /// A table the other way round.
 fn transposed(table: &[Mask; 16]) -> [Mask; 16]
     ensures { (y x : ℕ) → y < 16 → has (slice_index_or result y no_options) x ≡ (is_option x && has (slice_index_or table.now x no_options) y) }
 {
-    let mut turned = [Mask::none(); 16];
-    for option in 0..16u8 {
-        turned[option as usize] = column(table, option);
-    }
-    turned
-}
-
-/// The ways from one line, with one more to another line.
-fn with_way(mut row: [WaySet; 16], other: usize, way: usize) -> [WaySet; 16]
-    requires { other < 16 }
-    ensures { (m k : ℕ) → has_way (slice_index_or result m no_ways) k ≡ (has_way (slice_index_or row m no_ways) k || (m == other && (nat_lt k 48 && k == way))) }
-{
-    row[other] = row[other].with(way);
-    row
-}
-
-/// Adds a way between two lines.
-fn mark(ways: &mut [[WaySet; 16]; 16], line: usize, other: usize, way: usize)
-    requires line { line < 16 }
-    requires other { other < 16 }
-    ensures { Marked line other way ways.old ways.new }
-{
-    ways[line] = with_way(ways[line], other, way);
+    std::array::from_fn(|option| column(table, option as u8))
 }
 
 impl Network {
     /// The network of a wall's pair rules.
+    #[tactic(auto, using(crate::proofs::NetLaws::net_more, crate::proofs::NetLaws::net_skip))]
     pub fn of(wall: &Wall) -> Network
         ensures { IsNetwork wall.now.rules result.ways result.tables }
     {
         let mut net = Network::empty();
-        for k in 0..24u32 {
-            if let Some(rule) = wall.rule(k + 1) {
-                net.put(k as usize, rule);
+        for (k, rule) in wall.rules().iter().enumerate() {
+            if let Some(rule) = rule {
+                net.put(k, *rule);
             }
         }
         net
@@ -82,6 +57,7 @@ impl Network {
     pub fn between(&self, line: usize, other: usize) -> WaySet
         ensures { (way : ℕ) → has_way result way ≡ ((nat_lt line 16 && nat_lt other 16) && has_way (slice_index_or (slice_index_or self.now.ways line []) other no_ways) way) }
     {
+        // A chain of two `get`s and a default would be no plainer.
         if line < 16 && other < 16 {
             self.ways[line][other]
         } else {
@@ -93,6 +69,7 @@ impl Network {
     pub fn left(&self, way: usize, option: u8) -> Mask
         ensures { (y : ℕ) → has result y ≡ ((nat_lt way 48 && is_option option) && has (slice_index_or (slice_index_or self.now.tables way []) option no_options) y) }
     {
+        // A chain of two `get`s and a default would be no plainer.
         if way < 48 && option < 16 {
             self.tables[way][option as usize]
         } else {
@@ -119,8 +96,8 @@ impl Network {
     {
         let a = rule.first as usize;
         let b = rule.second as usize;
-        mark(&mut self.ways, a, b, k);
-        mark(&mut self.ways, b, a, 24 + k);
+        self.ways[a][b] = self.ways[a][b].with(k);
+        self.ways[b][a] = self.ways[b][a].with(24 + k);
         self.tables[k] = rule.table;
         self.tables[24 + k] = transposed(&rule.table);
     }

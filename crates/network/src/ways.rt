@@ -1,8 +1,11 @@
 // Sets of ways.
 ghost use Rattle.std.specs.Prelude.{◌≡◌, ℕ, false, ◌&&◌, ◌||◌, ◌==◌, nat_lt};
+ghost use Rattle.std.specs.Iterator.{at_most};
+ghost use Rattle.masks.specs.Members.{how_many};
 ghost use Rattle.network.specs.Ways.{has_way, SplitOff};
 
 /// A set of ways: bit k is 1 where way k is in the set.
+// No `Mask` of another size: a trait of words for both would have more functions than the two that they share, `none` and `with`.
 #[derive(Clone, Copy)]
 pub struct WaySet {
     bits: u64,
@@ -28,20 +31,41 @@ impl WaySet {
             self
         }
     }
+}
 
-    /// The way of the smallest number, and the set of the others.
-    pub fn split(self) -> Option<(usize, WaySet)>
-        ensures { SplitOff self result }
-    {
-        let way = self.bits.trailing_zeros() as usize;
+/// The ways of a set, the smallest number first.
+impl IntoIterator for WaySet {
+    type Item = usize;
+
+    type IntoIter = Ways;
+
+    ghost into_iter_gives = { λ set ways. ways.rest ≡ set };
+
+    fn into_iter(self) -> Ways {
+        Ways { rest: self }
+    }
+}
+
+/// The ways of a set that are still to come.
+#[derive(Clone, Copy)]
+pub struct Ways {
+    rest: WaySet,
+}
+
+impl Iterator for Ways {
+    type Item = usize;
+
+    ghost next_gives = { λ ways way later. SplitOff ways.rest way later.rest };
+
+    ghost remaining = { λ ways. at_most (how_many (has_way ways.rest) 48) };
+
+    fn next(&mut self) -> Option<usize> {
+        let bits = self.rest.bits;
+        let way = bits.trailing_zeros() as usize;
         if way >= 48 {
             return None;
         }
-        Some((
-            way,
-            WaySet {
-                bits: self.bits ^ (self.bits & (1 << way)),
-            },
-        ))
+        self.rest.bits = bits ^ (bits & (1 << way));
+        Some(way)
     }
 }

@@ -10,25 +10,23 @@ use wall::bars::Bars;
 use wall::wall::Wall;
 
 pub mod problem;
+#[cfg(test)]
+mod tests;
 
+// A wall and its bars stay two parameters: a search copies and restores the bars alone.
 /// The options of a line of the wall that are not barred; none of what is no line.
 fn free_on(wall: &Wall, bars: &Bars, line: usize) -> Mask
     requires { line < 16 }
     ensures { (o : ℕ) → has result o ≡ is_free wall.now bars.now line o }
 {
-    match wall.count(line) {
-        Some(count) => Mask::first(count).minus(bars.masks[line]),
-        None => Mask::none(),
-    }
+    wall.count(line).map_or(Mask::none(), |count| {
+        Mask::first(count).minus(bars.masks[line])
+    })
 }
 
 /// The options of each line of the wall that are not barred.
 pub fn free_options(wall: &Wall, bars: &Bars) -> [Mask; 16]
     ensures { AreFree wall.now bars.now result }
 {
-    let mut masks = [Mask::none(); 16];
-    for line in 0..16 {
-        masks[line] = free_on(wall, bars, line);
-    }
-    masks
+    std::array::from_fn(|line| free_on(wall, bars, line))
 }

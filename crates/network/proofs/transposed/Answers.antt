@@ -1,20 +1,10 @@
-use Rattle.std.proofs.Common.{◌≡◌, ◌<◌, length, ◌∙◌, ⊎_elim, arith}
-use Rattle.std.proofs.lemmas.List.{get_or-set_same, get_or-set_other, length-set}
-use Rattle.std.proofs.lemmas.Bool.{cases_eq}
+use Rattle.std.proofs.Common.{◌≡◌, ℕ, ◌&&◌, get_or, rules}
+use Rattle.masks.specs.declared.Mask.{Mask}
+use Rattle.masks.specs.Members.{is_option, has}
 use Rattle.wall.specs.Rules.{no_options}
+use Rattle.network.proofs.Arrays.{made_by}
 use Rattle.network.proofs.transposed.Goals as goal
 
-pub loop-option-preserved : goal.loop-option-preserved
-loop-option-preserved c =
-    let turned = c.loop-option.turned in
-    let o = c.loop-option.option in
-    let col = c.column.result in
-    let n = c.loop-option.invariant.0 in
-    let within : o < length turned = omega arith in (
-      length-set turned o col ∙ c.loop-option.invariant.0,
-      λ y x l.
-          ⊎_elim
-          (λ (e : y ≡ o). rw (e, get_or-set_same turned o col no_options within) (c.column.ensures x))
-          (λ (e : y ≡ o → ⊥). rw (get_or-set_other turned o y col no_options e) (c.loop-option.invariant.1 y x (omega arith)))
-          (cases_eq y o),
-    )
+pub returns : goal.returns
+returns c y x l =
+    made_by _ _ (λ (o : ℕ) (m : Mask). (x : ℕ) → has m x ≡ (is_option x && has (get_or c.args.table.now x no_options) o)) 16 (λ o m q s called. search rules) c.from_fn.result c.from_fn.ensures.items y no_options l x

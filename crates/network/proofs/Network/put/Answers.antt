@@ -1,8 +1,12 @@
-use Rattle.std.proofs.Common.{rules}
+use Rattle.std.proofs.Common.{arith, refl, rules}
+use Rattle.std.proofs.lemmas.Grind.{common_steps}
 use Rattle.network.proofs.NetLaws.{rule_put}
 use Rattle.network.proofs.Network.put.Goals as goal
 
 pub returns : goal.returns
-returns c =
-    rule_put c.args.k c.args.rule c.args.self.now.ways c.mark.new.ways c.mark-2.new.ways c.args.self.now.tables c.transposed.result c.requires.index (search rules) c.mark.ensures c.mark-2.ensures
-    c.transposed.ensures
+returns c = record {
+  joined = rule_put c.args.k c.args.rule c.args.self.now.ways _ c.with.result c.with-2.result c.requires.index c.requires.first c.requires.second (search rules) c.args.self.now.rows refl c.with.ensures c.with-2.ensures;
+  there = λ x. grind (arith, common_steps);
+  back = λ x y s. grind (arith, common_steps);
+  others = λ way p q. grind (arith, common_steps);
+}
