@@ -1,5 +1,5 @@
 -- The steps of a search: a full row, a line with nothing left, a jump, one option more.
-use Rattle.std.proofs.Common.{◌≡◌, ℕ, ◌<◌, ◌≤◌, true, false, not, ◌&&◌, ◌||◌, eqb, ltb, ◌⊎◌, List, length, get_or, take, set, replicate, Some, sym, ap, ◌∙◌, subst, inl, inr, ⊎_elim, arith}
+use Rattle.std.proofs.Common.{◌≡◌, ℕ, ◌<◌, ◌≤◌, true, false, not, ◌&&◌, ◌||◌, eqb, ltb, ◌⊎◌, List, length, get_or, take, set, replicate, Err, sym, ap, ◌∙◌, subst, inl, inr, ⊎_elim, arith}
 use Rattle.std.proofs.lemmas.List.{ext_get_or, get_or-take, length-take-le, get_or-set_same, get_or-set_other, get_or-replicate}
 use Rattle.std.proofs.lemmas.Bool.{cases_eq, cases_Bool, both_ways, and_parts, and_from, or_cases, or_left, or_right, ltb-true, lt-ltb, eqb-true, eqb-false, eq-eqb, ne_eqb, not-true, not_from_false}
 use Rattle.masks.specs.declared.Mask.{Mask}
@@ -141,7 +141,7 @@ module _ (r : Rules) (s : Sound r) (m causes : List Mask) (row : List ℕ) (long
       }
 
       -- a line with nothing left
-      pub dead_line : (Q : List ℕ → Type 0) (c : Mask) (dead : ℕ) → Dead r d x (set row d x) new (Some dead) → c ≡ get_or reasons dead no_options → Conflict r m causes row d x Q c
+      pub dead_line : (Q : List ℕ → Type 0) (c : Mask) (dead : ℕ) → Dead r d x (set row d x) new (Err dead) → c ≡ get_or reasons dead no_options → Conflict r m causes row d x Q c
       dead_line Q c dead is e = conflict_of Q c (record {
         chosen = subst (AllChosen r.lines (set row d x)) (sym e) (blamed_now dead is.0);
         out = λ β fits spared on. absurd (both_ways (has (get_or new dead no_options) (get_or β dead 0)) (is.2 (get_or β dead 0)) (spared dead is.0 is.1 (subst (λ (lines : Mask). AgreesOn lines (set row d x) β) e on)));

@@ -1,7 +1,7 @@
 -- Levels that stay as they were, and rows filled up with 255.
 use Rattle.std.proofs.Common.{◌≡◌, ℕ, ◌+◌, ◌-◌, ◌<◌, ◌≤◌, List, length, get_or, drop, set, replicate, sym, ap, ◌∙◌, arith}
 use Rattle.std.proofs.lemmas.List.{ext_get_or, get_or-drop, length-drop, length-replicate, get_or-replicate, get_or-set_other}
-use Rattle.choices.specs.declared.Level.{Level}
+use Rattle.forward.specs.declared.Level.{Level}
 use Rattle.choices.specs.Steps.{Filled, no_level, Unmoved}
 
 pub unmoved_on : (d : ℕ) (was mid is : List Level) → Unmoved d was mid → Unmoved d mid is → Unmoved d was is

@@ -1,5 +1,5 @@
 -- A choice put on its line, and the forward check after it.
-use Rattle.std.proofs.Common.{◌≡◌, ℕ, ◌<◌, ◌≤◌, true, false, ◌&&◌, eqb, ltb, leb, List, length, get_or, set, sym, ap, ◌∙◌, subst, ⊎_elim, arith}
+use Rattle.std.proofs.Common.{◌≡◌, ℕ, ◌<◌, ◌≤◌, true, false, ◌&&◌, eqb, ltb, leb, List, length, get_or, set, Ok, Err, Result, MatchResult, refl, sym, ap, ◌∙◌, subst, ⊎_elim, arith}
 use Rattle.std.proofs.lemmas.List.{get_or-set_same, get_or-set_other}
 use Rattle.std.proofs.lemmas.Bool.{both_ways, and_parts, and_from, and_right, cases_Bool, leb-true, ltb-true, lt-ltb, eqb-true, ne_eqb}
 use Rattle.masks.specs.declared.Mask.{Mask}
@@ -7,8 +7,8 @@ use Rattle.masks.specs.Members.{is_option, has}
 use Rattle.rows.specs.Rows.{is_open}
 use Rattle.wall.specs.Rules.{no_options}
 use Rattle.forward.specs.Fits.{Rules, Chosen, Open}
-use Rattle.forward.specs.Causes.{Swept, is_choice}
-use Rattle.choices.specs.Steps.{Narrowed}
+use Rattle.forward.specs.Causes.{Swept, Dead, is_choice}
+use Rattle.choices.specs.Steps.{Narrowed, Stuck}
 
 -- an option is not open
 pub option_chosen : (row : List ℕ) (line : ℕ) → get_or row line 0 < 16 → Chosen row line
@@ -54,3 +54,9 @@ module _ (r : Rules) (row : List ℕ) (line x : ℕ) (o : Mask) (old was new is 
     kept = λ β fits spared. swept.kept β fits (λ l h open' on.
         subst (λ (m : Mask). has m (get_or β l 0) ≡ true) (sym (off l (λ e. chosen_not_open row line here (subst (Open row) e open')))) (spared l h open' on));
   }
+
+-- the causes of the dead line as the error
+pub stuck_by : (r : Rules) (line x : ℕ) (row : List ℕ) (masks causes : List Mask) (a : Result (Unit {0}) ℕ) (b : Result (Unit {0}) Mask)
+    → MatchResult a (λ _. b ≡ Ok tt) (λ dead. b ≡ Err (get_or causes dead no_options)) → Dead r line x row masks a → Stuck r line x row masks causes b
+stuck_by r line x row masks causes (Ok _) b e h = rw e h
+stuck_by r line x row masks causes (Err dead) b e h = rw e (dead, h, refl)

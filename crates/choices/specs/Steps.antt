@@ -1,11 +1,17 @@
 -- What holds on the way of a search: rows that are left, choices, and who is to blame.
-use Rattle.std.specs.Prelude.{◌≡◌, ℕ, ◌-◌, ◌<◌, ◌≤◌, true, false, ◌⊎◌, List, [], drop, replicate, Some, None, Option, ◌==◌, ◌≢◌, slice_index, slice_index_or, slice_set}
+use Rattle.std.specs.Prelude.{◌≡◌, ℕ, ◌-◌, ◌<◌, ◌≤◌, Bool, true, false, ◌⊎◌, List, [], drop, replicate, Ok, Err, Result, ◌==◌, ◌≢◌, slice_index, slice_index_or, slice_set}
 use Rattle.masks.specs.declared.Mask.{Mask}
 use Rattle.masks.specs.Members.{has}
 use Rattle.wall.specs.Rules.{no_options}
-use Rattle.forward.specs.Fits.{Rules, Leads, Leaves, Fits, Left, Chosen}
+use Rattle.forward.specs.Fits.{Rules, Leads, Leaves, Fits, Left, Chosen, rules_of}
 use Rattle.forward.specs.Causes.{AgreesOn, Spared, Dead, is_choice}
-use Rattle.choices.specs.declared.Level.{Level}
+use Rattle.start.specs.declared.problem.Problem.{Problem}
+use Rattle.forward.specs.declared.Choice.{Choice}
+use Rattle.forward.specs.declared.Level.{Level}
+
+-- the rules that a problem and a house rule make
+abbrev pub rules_in : Problem → (ℕ → List ℕ → Bool) → Rules
+rules_in problem passes = rules_of problem.lines problem.net passes
 
 -- a row that fits and has an option that is left on each line
 abbrev pub FitsWithin : Rules → List Mask → List ℕ → Type 0
@@ -60,13 +66,13 @@ pub record Narrowed (r : Rules) (row : List ℕ) (line x : ℕ) (old was new is 
   pub whose : (l i : ℕ) → has (slice_index_or is l no_options) i ≡ true → (has (slice_index_or was l no_options) i ≡ true) ⊎ ((i < r.lines) × Chosen row i)
   pub kept : (β : List ℕ) → Fits r β → Spared r.lines old was row β → Spared r.lines new is row β
 
--- the causes of the first open line that has nothing left, if there is one
-abbrev pub Stuck : Rules → ℕ → ℕ → List ℕ → List Mask → List Mask → Option Mask → Type 0
-Stuck r line x row masks causes None = Dead r line x row masks None
-Stuck r line x row masks causes (Some lines) = (dead : ℕ) × Dead r line x row masks (Some dead) × (lines ≡ slice_index_or causes dead no_options)
+-- the causes of the first open line that has nothing left as the error, if there is one
+abbrev pub Stuck : Rules → ℕ → ℕ → List ℕ → List Mask → List Mask → Result (Unit {0}) Mask → Type 0
+Stuck r line x row masks causes (Ok _) = Dead r line x row masks (Ok tt)
+Stuck r line x row masks causes (Err lines) = (dead : ℕ) × Dead r line x row masks (Err dead) × (lines ≡ slice_index_or causes dead no_options)
 
 -- what a choice leaves and answers; what is no choice changes nothing
-abbrev pub Chose : Rules → List ℕ → ℕ → ℕ → List Mask → List Mask → List Mask → List Mask → Option Mask → Type 0
-Chose r row line x old was new is answer =
-    (is_choice r.lines row line x ≡ true → Narrowed r row line x old was new is × Stuck r line x row new is answer)
-    × (is_choice r.lines row line x ≡ false → (new ≡ old) × (is ≡ was) × (answer ≡ None))
+abbrev pub Chose : Rules → List ℕ → Choice → Level → Level → Result (Unit {0}) Mask → Type 0
+Chose r row choice was is answer =
+    (is_choice r.lines row choice.line choice.option ≡ true → Narrowed r row choice.line choice.option was.masks was.causes is.masks is.causes × Stuck r choice.line choice.option row is.masks is.causes answer)
+    × (is_choice r.lines row choice.line choice.option ≡ false → (is ≡ was) × (answer ≡ Ok tt))

@@ -1,5 +1,5 @@
 -- The steps of the lexical search.
-use Rattle.std.proofs.Common.{◌≡◌, ℕ, ◌+◌, ◌<◌, ◌≤◌, Bool, true, false, ◌&&◌, eqb, ltb, leb, List, length, get_or, take, set, replicate, Some, sym, ap, ◌∙◌, subst, inl, inr, ⊎_elim, arith}
+use Rattle.std.proofs.Common.{◌≡◌, ℕ, ◌+◌, ◌<◌, ◌≤◌, Bool, true, false, ◌&&◌, eqb, ltb, leb, List, length, get_or, take, set, replicate, Some, Ok, Err, Result, sym, ap, ◌∙◌, subst, inl, inr, ⊎_elim, arith}
 use Rattle.std.proofs.lemmas.List.{ext_get_or, get_or-take, length-take-le, length-set, length-replicate, get_or-replicate, get_or-set_same}
 use Rattle.std.proofs.lemmas.Bool.{cases_eq, both_ways, and_from, lt-ltb, le-ltb, le-leb, not_from_false, eq-eqb}
 use Rattle.masks.specs.declared.Mask.{Mask}
@@ -14,13 +14,11 @@ use Rattle.wall.specs.Plans.{First}
 use Rattle.forward.specs.Fits.{Rules, Left, Chosen, Open}
 use Rattle.forward.specs.Causes.{Tied, is_choice}
 use Rattle.start.specs.Starts.{Sound}
-use Rattle.choices.specs.declared.Level.{Level}
+use Rattle.forward.specs.declared.Level.{Level}
 use Rattle.choices.specs.Steps.{FitsWithin, Filled, Tried, Narrowed, Stuck}
 use Rattle.choices.proofs.Jumping.{shares, full_fits, full_only, full_blames, here, off, blamed_now, conflict_of, dead_line, back, forth, placed, placed_none, blamed_none}
 use Rattle.choices.proofs.Levels.{rest_filled}
 use Rattle.choices.proofs.Narrowing.{option_chosen}
-use Rattle.lexical.specs.declared.outcome.Outcome.{Outcome}
-use Rattle.lexical.specs.declared.outcome.Outcome.TheVariants.{Found, Dead}
 use Rattle.lexical.specs.Ends.{Reached, Never, Judged, Ends, Followed}
 
 module _ (r : Rules) (s : Sound r) (before : ℕ → List ℕ → ℕ → ℕ → Bool) (d : ℕ) (level : Level) (row : List ℕ) (reached : Reached r d level row) where
@@ -31,17 +29,17 @@ module _ (r : Rules) (s : Sound r) (before : ℕ → List ℕ → ℕ → ℕ �
   filled : r.lines ≤ d → d ≤ r.lines → Filled r.lines row
   filled low high = rest_filled r.lines row s.few long (λ line l h. reached.below line (omega arith) h)
 
-  pub judged_ends : d ≡ r.lines → (o : Outcome) → Judged r.passes r.lines row o → Ends r before level row o
-  judged_ends e (Found α) j =
+  pub judged_ends : d ≡ r.lines → (o : Result (List ℕ) Mask) → Judged r.passes r.lines row o → Ends r before level row o
+  judged_ends e (Ok α) j =
       let full : (line : ℕ) → line < r.lines → Chosen row line = λ line l. reached.above line (omega arith) in
-      subst (λ (a : List ℕ). Ends r before level row (Found a)) (sym j.1) (
+      subst (λ (a : List ℕ). Ends r before level row (Ok a)) (sym j.1) (
         (
           full_fits r s level.masks level.causes row long reached.placed reached.blamed full j.0,
           (λ β k. inl (full_only r s level.masks level.causes row long reached.placed reached.blamed full β k)),
         ),
         filled (omega arith) (omega arith),
       )
-  judged_ends e (Dead lines) j =
+  judged_ends e (Err lines) j =
       let full : (line : ℕ) → line < r.lines → Chosen row line = λ line l. reached.above line (omega arith) in
       full_blames r s level.masks level.causes row long reached.placed reached.blamed full Never lines j.1
       (λ β fits is. both_ways (r.passes r.lines β) (ap (r.passes r.lines) (sym is) ∙ j.0) fits.passed)
@@ -82,9 +80,9 @@ module _ (r : Rules) (s : Sound r) (before : ℕ → List ℕ → ℕ → ℕ �
       )
 
       -- so it is for the first by the ranking's places of what is still to be tried
-      pub found_first : IsRanking before → (places above : List ℕ) → above ≡ take d row → ArePlacesOf before d above places → (left blame : Mask) → FirstByPlace places (has left) (Some x)
-          → Tried r level.masks level.causes row Never d left blame → (α : List ℕ) → Followed r before level row d x (Found α) → Ends r before level row (Found α)
-      found_first ranks places above e are left blame picked tried α followed =
+      pub found_first : IsRanking before → (places : List ℕ) → ArePlacesOf before d (take d row) places → (left blame : Mask) → FirstByPlace places (has left) (Some x)
+          → Tried r level.masks level.causes row Never d left blame → (α : List ℕ) → Followed r before level row d x (Ok α) → Ends r before level row (Ok α)
+      found_first ranks places are left blame picked tried α followed =
           (first_of_all (take r.lines α) ahead followed.0, followed.1)
         where
           asked : (a b : ℕ) → a < 16 → b < 16 → is_asked d (take d row) a b ≡ true
@@ -97,7 +95,7 @@ module _ (r : Rules) (s : Sound r) (before : ℕ → List ℕ → ℕ → ℕ �
               let i = has_option left x picked.0 in
               let j = has_option left y still in
               let later : get_or places x 0 ≤ get_or places y 0 = ⊎_elim (λ l. omega arith) (λ q. let f = q.0 in omega arith) (picked.1 y still) in
-              let rise = (subst (λ (front : List ℕ). ArePlacesOf before d front places) e are).rise in
+              let rise = are.rise in
               ranks.one d (take d row) x y (asked x y i j) (λ q. ne (sym q))
               ∙ not_from_false (before d (take d row) y x) (rise y x (asked y x j i) ∙ le-ltb (get_or places y 0) (get_or places x 0) later)
 
@@ -126,17 +124,17 @@ module _ (r : Rules) (s : Sound r) (before : ℕ → List ℕ → ℕ → ℕ �
           below = λ line l h. off r s level.masks level.causes row long reached.placed reached.blamed d x w line_is_open small line (λ e. omega arith) ∙ reached.below line (omega arith) h;
         }
 
-        pub ends_followed : (o : Outcome) → Ends r before new (set row d x) o → Followed r before level row d x o
-        ends_followed (Found α) ends = (
+        pub ends_followed : (o : Result (List ℕ) Mask) → Ends r before new (set row d x) o → Followed r before level row d x o
+        ends_followed (Ok α) ends = (
           (
             back r s level.masks level.causes row long reached.placed reached.blamed d x w line_is_open small new.masks new.causes narrowed left_x (take r.lines α) ends.0.0,
             (λ β k. ends.0.1 β (forth r s level.masks level.causes row long reached.placed reached.blamed d x w line_is_open small new.masks new.causes narrowed left_x β k.0 k.1)),
           ),
           ends.1,
         )
-        ends_followed (Dead lines) ends = conflict_of r s level.masks level.causes row long reached.placed reached.blamed d x w line_is_open small new.masks new.causes narrowed Never lines ends
+        ends_followed (Err lines) ends = conflict_of r s level.masks level.causes row long reached.placed reached.blamed d x w line_is_open small new.masks new.causes narrowed Never lines ends
 
-        pub stuck_followed : (lines : Mask) → Stuck r d x (set row d x) new.masks new.causes (Some lines) → Followed r before level row d x (Dead lines)
+        pub stuck_followed : (lines : Mask) → Stuck r d x (set row d x) new.masks new.causes (Err lines) → Followed r before level row d x (Err lines)
         stuck_followed lines stuck = dead_line r s level.masks level.causes row long reached.placed reached.blamed d x w line_is_open small new.masks new.causes narrowed Never lines stuck.0 stuck.1 stuck.2
 
 -- where nothing is chosen yet

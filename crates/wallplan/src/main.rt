@@ -16,18 +16,14 @@ fn best_row<R: Ranking>(ranking: &R, counts: &[u8; 3]) -> Option<[u8; 3]>
     ensures { BestRow (R.Ranking.before ranking.now) counts.now result }
 {
     let mut row = [0; 3];
-    for line in 0..3 {
-        let Some(option) = best_option(ranking, line, &row[0..line], Mask::first(counts[line]))
-        else {
-            return None;
-        };
-        row[line] = option;
+    for (line, count) in counts.iter().enumerate() {
+        row[line] = best_option(ranking, line, &row[..line], Mask::first(*count))?;
     }
     Some(row)
 }
 
 fn main(rt: HostRuntime) -> io::Result<()> {
-    let house = Free {};
+    let house = Free;
     let mut ranking = ListRanking::new();
     if ranking.set_list(1, &[1, 0]).is_err() {
         return println!(rt; "the list of line 1 is refused");
