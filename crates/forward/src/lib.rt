@@ -35,6 +35,7 @@ pub struct Choice {
     pub option: u8,
 }
 
+// n and the row stay apart, as where rows are asked about.
 impl Choice {
     /// Whether a row of n lines, at most sixteen, has the option on the line.
     pub fn stands_in(self, n: usize, row: &[u8; 16]) -> bool
@@ -70,6 +71,7 @@ fn blame(causes: Mask, before: Mask, after: Mask, more: Mask) -> Mask
     }
 }
 
+// That a line is below sixteen is asked here and in `settle`: a type for it would be checked at every number that arrives.
 impl Level {
     /// What a line has left.
     fn share(&self, line: usize) -> Share
@@ -92,6 +94,7 @@ impl Level {
     }
 }
 
+// A row, a choice and a level stay three parameters: the row is read, the level written, and both are the caller's own.
 impl<'a, H: HouseRule> Rulebook<'a, H> {
     /// The forward check: after a choice, takes from each open line what does not go with it, and stops at the first that has nothing left, which is the error. What is no choice of the row changes nothing.
     pub fn check_forward(
@@ -118,6 +121,7 @@ impl<'a, H: HouseRule> Rulebook<'a, H> {
         ensures { Sweeps (rules_of self.now.lines self.now.net.now (H.HouseRule.passing self.now.house.now)) row.now choice level.old level.new result }
     {
         let Choice { line, option } = choice;
+        // One label over both loops: the dead line is the value that leaves them.
         'sweep: {
             for (other, entry) in row[..self.lines].iter().enumerate() {
                 if *entry == OPEN {

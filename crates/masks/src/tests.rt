@@ -73,3 +73,8 @@ fn least_and_count(rt: HostRuntime) {
         [0, 1, 16]
     );
 }
+
+#[test]
+fn the_theorem_holds(rt: HostRuntime) {
+    assert!(rt; Mask::sets_by_members());
+}

@@ -1,7 +1,7 @@
 // The pair rules of a wall, ready for look-ups either way.
 #![tactic(auto)]
 
-ghost use Rattle.std.specs.Prelude.{◌≡◌, ℕ, ◌+◌, ◌<◌, ◌≤◌, true, false, ◌&&◌, ◌||◌, [], length, ◌==◌, nat_lt, slice_index_or};
+ghost use Rattle.std.specs.Prelude.{◌≡◌, ℕ, ◌<◌, ◌&&◌, [], length, nat_lt, slice_index_or};
 ghost use Rattle.masks.specs.Members.{is_option, has};
 ghost use Rattle.network.specs.Ways.{has_way, no_ways, IsNetwork, RulePut};
 ghost use Rattle.wall.specs.Rules.{no_options};
@@ -20,7 +20,7 @@ pub mod ways;
 pub struct Network {
     ways: [[WaySet; 16]; 16],
     tables: [[Mask; 16]; 48],
-    // Known of each row, a write into a row is known too.
+    // Each row has sixteen entries, so that a write into one is known to be in it.
     ghost rows: { (line : ℕ) → line < 16 → length (slice_index_or ways line []) ≡ 16 },
 }
 
@@ -57,7 +57,7 @@ impl Network {
     pub fn between(&self, line: usize, other: usize) -> WaySet
         ensures { (way : ℕ) → has_way result way ≡ ((nat_lt line 16 && nat_lt other 16) && has_way (slice_index_or (slice_index_or self.now.ways line []) other no_ways) way) }
     {
-        // A chain of two `get`s and a default would be no plainer.
+        // `self.ways.get(line).and_then(|row| row.get(other))` and a default are no plainer.
         if line < 16 && other < 16 {
             self.ways[line][other]
         } else {
@@ -69,7 +69,7 @@ impl Network {
     pub fn left(&self, way: usize, option: u8) -> Mask
         ensures { (y : ℕ) → has result y ≡ ((nat_lt way 48 && is_option option) && has (slice_index_or (slice_index_or self.now.tables way []) option no_options) y) }
     {
-        // A chain of two `get`s and a default would be no plainer.
+        // The same chain of `get`s and a default are no plainer here.
         if way < 48 && option < 16 {
             self.tables[way][option as usize]
         } else {

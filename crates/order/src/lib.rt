@@ -7,6 +7,7 @@ ghost use Rattle.order.specs.Firsts.{FirstOf, before_by};
 pub fn first_of<T: Ord>(group: &[T]) -> Option<usize>
     ensures { FirstOf (before_by T.cmp) group.now result }
 {
+    // The library's `min_by_key` does not promise the earliest of those alike.
     let (mut best, rest) = group.split_first()?;
     let mut first = 0;
     for (i, entry) in rest.iter().enumerate() {

@@ -58,7 +58,7 @@ pub fn row_goes_before<R: Ranking>(ranking: &R, first: &[u8], second: &[u8]) -> 
     else {
         return false;
     };
-    // The text that finds the first option finds the first row too.
+    // Not by `<`: one function finds the first of every kind of entry, options and rows alike.
     first_of(&[worse, better]) == Some(1)
 }
 
@@ -68,13 +68,14 @@ fn group_of<F: Fn(u8) -> u8>(options: Mask, place: F) -> ArrayVec<RankedOption, 
     ensures { PlacesOptions (F.post place) (has options) result.items }
 {
     let mut group = ArrayVec::new();
-    for option in 0..16 {
-        if options.has(option) {
-            group.push(RankedOption {
-                place: place(option),
-                option,
-            });
-        }
+    // An iterator over sets of options would serve this loop alone.
+    let mut left = options;
+    while let Some(option) = left.least() {
+        left = left.without(option);
+        group.push(RankedOption {
+            place: place(option),
+            option,
+        });
     }
     group
 }

@@ -53,7 +53,7 @@ impl ConditionalRanking {
         }
         self.parents[k] = settled.parent;
         self.lists
-            .replace(k * 16 + usize::from(settled.option), row);
+            .replace(slot(k, usize::from(settled.option)), row);
         Ok(())
     }
 
@@ -64,8 +64,18 @@ impl ConditionalRanking {
         ensures slot { result ≡ slot line (option_under (slice_index_or self.now.parents line Unsettled) above.now) }
         ensures within { result < 256 }
     {
-        line * 16 + self.parents[line].option_under(above)
+        slot(line, self.parents[line].option_under(above))
     }
+}
+
+/// Which of the lists is that of a line under a parent option.
+// One table and this sum: sixteen tables of sixteen would need what holds of each list said for each of them.
+fn slot(line: usize, option: usize) -> usize
+    requires line { line < 16 }
+    requires option { option < 16 }
+    ensures { result ≡ slot line option }
+{
+    line * 16 + option
 }
 
 impl Ranking for ConditionalRanking {

@@ -19,10 +19,13 @@ pub trait Ranking {
     /// The letter of the kind.
     const LETTER: u8;
 
+    /// The number that the letter is.
     ghost LETTER: { ℕ };
 
     /// Whether, on a line and under the entries above it, the first of two options goes before the second.
     ghost before: { Self → ℕ → List ℕ → ℕ → ℕ → Bool };
+
+    // The questions take a line and the entries above it apart: entries of another number are a question too, and get no.
 
     /// Whether, on a line and under the entries above it, option a goes before option b; no for anything else.
     fn goes_before(&self, line: usize, above: &[u8], a: u8, b: u8) -> bool

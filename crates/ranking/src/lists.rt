@@ -14,6 +14,7 @@ pub struct Lists<const N: usize> {
     ghost placed: { (k : ℕ) → k < N → are_places 16 (slice_index_or places k []) (slice_index_or rows k []) ≡ true },
 }
 
+// The number of a list is the crate's own, so these methods ask that it is one of N.
 impl<const N: usize> Lists<N> {
     /// Every list rises from option 0 to option 15.
     pub fn rising() -> Lists<N>

@@ -9,6 +9,8 @@ ghost use Rattle.rows.specs.Rows.{is_row, is_partial};
 // A byte and no `Option`: the format of rows is bytes, filled up with 255.
 pub const OPEN: u8 = 255;
 
+// n and the row apart, here and above: a row of another length is a question too, and gets no.
+
 /// Whether these are n entries, each an option.
 pub fn is_row(n: usize, row: &[u8]) -> bool
     ensures { result ≡ is_row n row.now }

@@ -13,7 +13,7 @@ pub mod problem;
 #[cfg(test)]
 mod tests;
 
-// A wall and its bars stay two parameters: a search copies and restores the bars alone.
+// A wall and its bars stay two parameters: a trial copies and restores the bars alone.
 /// The options of a line of the wall that are not barred; none of what is no line.
 fn free_on(wall: &Wall, bars: &Bars, line: usize) -> Mask
     requires { line < 16 }

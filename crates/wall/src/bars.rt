@@ -1,5 +1,5 @@
 // Bars.
-ghost use Rattle.std.specs.Prelude.{◌≡◌, ℕ, ◌<◌, true, false, not, ◌&&◌, ◌||◌, length, ◌==◌, nat_lt};
+ghost use Rattle.std.specs.Prelude.{◌≡◌, ℕ, ◌<◌, false, not, ◌&&◌, ◌||◌, ◌==◌, nat_lt};
 ghost use Rattle.masks.specs.Members.{is_option};
 ghost use Rattle.wall.specs.Rules.{is_barred};
 
@@ -11,7 +11,7 @@ pub struct Bars {
     pub masks: [Mask; 16],
 }
 
-// A line and an option stay two numbers: a struct of them would have no method of its own.
+// A line and an option stay two numbers, of any size, as they are asked: a choice is an option that a row has.
 impl Bars {
     /// Nothing is barred.
     pub fn none() -> Bars

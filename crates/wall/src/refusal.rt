@@ -13,7 +13,7 @@ pub enum WallRefusal {
     RuleNumber,
     /// Both ends of the rule are on one line.
     OneLine,
-    /// Sixteen lines are open.
+    /// The wall has sixteen lines.
     TooManyLines,
 }
 

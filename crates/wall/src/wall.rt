@@ -1,5 +1,5 @@
 // The lines of a wall and the pair rules between them.
-ghost use Rattle.std.specs.Prelude.{◌≡◌, ℕ, ◌-◌, ◌<◌, ◌≤◌, true, false, length, Some, None, IfErr, IfOk, SomeIff, slice_index, slice_index_or};
+ghost use Rattle.std.specs.Prelude.{◌≡◌, ℕ, ◌-◌, ◌<◌, ◌≤◌, true, false, length, None, IfErr, IfOk, SomeIff, slice_index, slice_index_or};
 ghost use Rattle.wall.specs.Rules.{is_count, is_filed, is_number};
 
 use crate::refusal::WallRefusal;
@@ -51,7 +51,7 @@ impl Wall {
     }
 
     /// The rules under the numbers 1 to 24, the first at index 0.
-    pub fn rules(&self) -> &[Option<PairRule>; 24]
+    pub fn rules(&self) -> &[Option<PairRule>]
         ensures { result.now ≡ self.now.rules }
     {
         &self.rules

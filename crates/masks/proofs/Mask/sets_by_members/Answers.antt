@@ -1,5 +1,5 @@
 use Rattle.masks.proofs.Members.{same_members}
 use Rattle.masks.proofs.Mask.sets_by_members.Goals as goal
 
-pub returns : goal.returns
-returns c = same_members
+pub returns-clause-members : goal.returns-clause-members
+returns-clause-members c = same_members
