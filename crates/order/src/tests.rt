@@ -1,10 +1,16 @@
 // The first of small groups of figures, the smaller figure first.
-use crate::first_of;
+ghost use Rattle.std.proofs.Common.{rules};
+
+use crate::{Ordered, first_of, kind_is_in_order, lists_are_in_order};
 
 /// An entry whose place is its figure.
 #[derive(Clone, Copy, PartialEq, Eq, PartialOrd, Ord)]
 struct Figure {
     figure: u8,
+}
+
+impl Ordered for Figure {
+    ghost one = { Prim.search rules };
 }
 
 fn entry(figure: u8) -> Figure {
@@ -38,4 +44,15 @@ fn the_earliest_of_those_alike(rt: HostRuntime) {
         ],
         [Some(1), Some(0)]
     );
+}
+
+#[test]
+fn a_kind_of_entry_is_in_order(rt: HostRuntime) {
+    assert!(rt; kind_is_in_order::<Figure>());
+}
+
+#[test]
+fn lists_of_ordered_entries_are_in_order(rt: HostRuntime) {
+    assert!(rt; lists_are_in_order::<u8>());
+    assert!(rt; lists_are_in_order::<Figure>());
 }

@@ -12,7 +12,7 @@ use Rattle.masks.specs.Members.{has, size}
 use Rattle.masks.proofs.Counts.{how_many_le}
 use Rattle.order.specs.Firsts.{before_by, FirstAt}
 use Rattle.places.specs.Entries.{PlacesOptions, FirstBy}
-use Rattle.places.proofs.EntryOrders.{entry_cmp}
+use Rattle.places.specs.EntryOrders.{entry_cmp}
 use Rattle.places.specs.declared.entries.RankedOption.{RankedOption}
 
 -- the options of a set but for those that are left, each with a place that it is given

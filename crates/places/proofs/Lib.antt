@@ -1,3 +1,2 @@
-pub mod EntryOrders
 pub mod Groups
 pub mod PlaceLaws

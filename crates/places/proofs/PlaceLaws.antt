@@ -17,7 +17,7 @@ use Rattle.order.proofs.Laws.{never, asym}
 use Rattle.order.proofs.Lists.{apart_before, before_apart}
 use Rattle.places.specs.declared.entries.RankedOption.{RankedOption}
 use Rattle.places.specs.Entries.{open_entry, ranked, RanksRow, is_pair, FirstBy, FirstByPlace, BestOption}
-use Rattle.places.proofs.EntryOrders.{entry_cmp, entry_total, entry_same}
+use Rattle.places.specs.EntryOrders.{entry_cmp, entry_total, entry_same}
 use Rattle.ranking.specs.Orders.{is_under, is_asked, IsRanking, ArePlacesOf, place_of, RowBefore}
 use Rattle.ranking.specs.Ranks.{asked_parts, asked_from, under_from}
 

@@ -54,8 +54,11 @@ pub fn row_goes_before<R: Ranking>(ranking: &R, first: &[u8], second: &[u8]) -> 
     if first.len() != second.len() {
         return false;
     }
-    let (Some(better), Some(worse)) = (ranked_row(ranking, first), ranked_row(ranking, second))
-    else {
+    // One after the other: the second row is not ranked where the first is none.
+    let Some(better) = ranked_row(ranking, first) else {
+        return false;
+    };
+    let Some(worse) = ranked_row(ranking, second) else {
         return false;
     };
     // Not by `<`: one function finds the first of every kind of entry, options and rows alike.

@@ -1,7 +1,8 @@
 // Places, best options and rows in order.
-use crate::entries::{RankedOption, entries_are_in_order};
+use crate::entries::{RankedOption, RankedRow, entries_are_in_order};
 use crate::{best_option, first_by_places, place_of, ranked_row, row_goes_before};
 use masks::Mask;
+use order::kind_is_in_order;
 use ranking::condition::Condition;
 use ranking::conditional::ConditionalRanking;
 use ranking::list::ListRanking;
@@ -83,4 +84,10 @@ fn the_place_orders_the_entries(rt: HostRuntime) {
     assert!(rt; ranked_row(&ranking, &[0, 5]) < ranked_row(&ranking, &[1, 0]));
     assert!(rt; ranked_row(&ranking, &[0, 5]) < ranked_row(&ranking, &[0, 6]));
     assert!(rt; ranked_row(&ranking, &[16]).is_none());
+}
+
+#[test]
+fn both_kinds_are_in_order(rt: HostRuntime) {
+    assert!(rt; kind_is_in_order::<RankedOption>());
+    assert!(rt; kind_is_in_order::<RankedRow>());
 }

@@ -1,5 +1,5 @@
 use Rattle.order.proofs.Laws.{in_order}
-use Rattle.places.proofs.EntryOrders.{row_total, row_same, row_before}
+use Rattle.places.specs.EntryOrders.{row_total, row_same, row_before}
 use Rattle.places.proofs.entries.entries_are_in_order.Goals as goal
 
 pub returns-clause-rows : goal.returns-clause-rows
