@@ -1,9 +1,10 @@
 -- The laws of ranking lists: of what stands in one, of what it lacks, and of places. Assumes nothing.
 use Rattle.std.specs.Prelude.{◌≡◌, ℕ, zero, suc, ◌+◌, ◌<◌, ◌≤◌, Bool, true, false, cond, not, ◌&&◌, ◌||◌, List, [], ◌∷◌, ◌++◌, length, ◌==◌, nat_eq, slice_index_or, refl}
 use Rattle.std.proofs.Common.{sym, ap, ◌∙◌, ⊎_elim, add-one, arith, length-append}
+use Rattle.std.proofs.lemmas.List.{append-nil}
 use Rattle.std.proofs.lemmas.List.Recursion.{or_push, or_at}
 use Rattle.std.proofs.Math.Bool.{or_assoc}
-use Rattle.std.proofs.lemmas.Bool.{cases_eq, eq-eqb, ne_eqb, and_parts, and_from, or_parts, or_from, ltb-true, lt-ltb, not-true}
+use Rattle.std.proofs.lemmas.Bool.{cases_eq, eq-eqb, ne_eqb, and_parts, and_from, or_parts, or_from, ltb-true, lt-ltb, not-true, false_from_ne_true}
 use Rattle.std.proofs.lemmas.Bool.Decides.{nat_tests}
 use Rattle.masks.specs.Members.{is_option}
 use Rattle.ranking.specs.Lists.{stands, is_list, missing}
@@ -119,13 +120,23 @@ whole (x ∷ xs) f =
 pub list_short : (xs : List ℕ) → is_list xs ≡ true → length xs ≤ 16
 list_short xs h = let w = whole xs h in omega arith
 
+pub too_long : (xs : List ℕ) → 16 < length xs → is_list xs ≡ false
+too_long xs l = false_from_ne_true (is_list xs) (λ h. let s = list_short xs h in omega arith)
+
 -- one option on
-missing_more : (o : ℕ) (xs : List ℕ) → missing (o + 1) xs ≡ missing o xs ++ cond (stands o xs) [] (o ∷ [])
+pub missing_more : (o : ℕ) (xs : List ℕ) → missing (o + 1) xs ≡ missing o xs ++ cond (stands o xs) [] (o ∷ [])
 unfolding missing
 missing_more o xs = ap (λ (n : ℕ). missing n xs) (add-one o)
 
-missing_new : (o : ℕ) (xs : List ℕ) → stands o xs ≡ false → missing (o + 1) xs ≡ missing o xs ++ (o ∷ [])
+pub missing_old : (o : ℕ) (xs : List ℕ) → stands o xs ≡ true → missing (o + 1) xs ≡ missing o xs
+missing_old o xs h = missing_more o xs ∙ ap (λ (b : Bool). missing o xs ++ cond b [] (o ∷ [])) h ∙ append-nil (missing o xs)
+
+pub missing_new : (o : ℕ) (xs : List ℕ) → stands o xs ≡ false → missing (o + 1) xs ≡ missing o xs ++ (o ∷ [])
 missing_new o xs h = missing_more o xs ∙ ap (λ (b : Bool). missing o xs ++ cond b [] (o ∷ [])) h
+
+pub missing_none : (xs : List ℕ) → missing 0 xs ≡ []
+unfolding missing
+missing_none xs = refl
 
 missing_grows : (m n : ℕ) (xs : List ℕ) → m ≤ n → length (missing m xs) ≤ length (missing n xs)
 unfolding missing

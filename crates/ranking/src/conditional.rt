@@ -9,7 +9,7 @@ ghost use Rattle.ranking.specs.Ranks.{ranks_by_lists, slot_below};
 
 use crate::Ranking;
 use crate::condition::{Condition, Parent, Settled, is_above};
-use crate::fill::fill;
+use crate::fill::{fill_up, options_of};
 use crate::lists::Lists;
 use crate::questions::{is_asked, is_under};
 use crate::refusal::RankingRefusal;
@@ -46,14 +46,14 @@ impl ConditionalRanking {
             return Err(RankingRefusal::OutOfRange);
         }
         let settled = Settled::try_from(condition)?;
-        let row = fill(list)?;
+        let options = options_of(list)?;
         let k = line as usize;
         if !is_above(condition, line) || !self.parents[k].allows(settled.parent) {
             return Err(RankingRefusal::OtherParent);
         }
         self.parents[k] = settled.parent;
-        self.lists
-            .replace(slot(k, usize::from(settled.option)), row);
+        // Filled up last: a row kept while the parent is looked at was copied in pieces, which took a third longer.
+        self.lists.replace(slot(k, usize::from(settled.option)), fill_up(list, options));
         Ok(())
     }
 

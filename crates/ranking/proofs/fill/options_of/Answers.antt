@@ -1,19 +1,19 @@
-use Rattle.std.proofs.Common.{get_or, sym, ◌∙◌}
+use Rattle.std.proofs.Common.{get_or, refl, sym, ◌∙◌}
 use Rattle.ranking.specs.ListLaws.{list_nil, stands_none}
 use Rattle.ranking.proofs.Filling.{no_option, twice, list_more, set_more}
-use Rattle.ranking.proofs.fill.is_list.Goals as goal
-use Rattle.ranking.proofs.fill.is_list.Goals.{then-number-ge16-via-then-number-ge16, then-number-ge16-via-else-number-ge16+then-has}
+use Rattle.ranking.proofs.fill.options_of.Goals as goal
+use Rattle.ranking.proofs.fill.options_of.Goals.{then-number-ge16-via-then-number-ge16, then-number-ge16-via-else-number-ge16+then-has}
 
 pub loop-number-init : goal.loop-number-init
 loop-number-init c = (list_nil, λ o. c.none-options.ensures o ∙ sym (stands_none o))
 
-pub returns-then-number-ge16 : goal.returns-then-number-ge16
-returns-then-number-ge16 c =
+pub returns-then-number-ge16-clause-refused : goal.returns-then-number-ge16-clause-refused
+returns-then-number-ge16-clause-refused c =
     let list = c.args.list.now in
     let i = c.loop-number.number-index in
     elim c.then-number-ge16.branch [
-      | then-number-ge16-via-then-number-ge16 w ↦ sym (no_option list i c.loop-number-test.true w.if-number-ge16.true)
-      | then-number-ge16-via-else-number-ge16+then-has w ↦ sym (twice list i c.loop-number-test.true (sym (c.loop-number.invariant.1 _) ∙ sym w.if-has.ensures))
+      | then-number-ge16-via-then-number-ge16 w ↦ (no_option list i c.loop-number-test.true w.if-number-ge16.true, refl)
+      | then-number-ge16-via-else-number-ge16+then-has w ↦ (twice list i c.loop-number-test.true (sym (c.loop-number.invariant.1 _) ∙ sym w.if-has.ensures), refl)
     ]
 
 pub loop-number-preserved : goal.loop-number-preserved
