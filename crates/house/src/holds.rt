@@ -78,15 +78,14 @@ impl Holds {
         ensures sum { result ≡ load self.now.counts row.now (length row.now) }
         ensures small { result ≤ 999 * 16 }
     {
-        // By a test: `get` with a default took two fifths longer.
-        row.iter()
-            .zip(&self.counts)
-            .map(|(entry, counts)| if *entry < 16 {
-                u32::from(counts[usize::from(*entry)])
-            } else {
-                0
-            })
-            .sum()
+        // By a loop: `zip` and `sum` took two fifths longer. By a test: so did `get` with a default.
+        let mut sum = 0;
+        for (line, entry) in row.iter().enumerate() {
+            if *entry < 16 {
+                sum += u32::from(self.counts[line][usize::from(*entry)]);
+            }
+        }
+        sum
     }
 
     /// The options of a line whose holds exceed what is left of the limit beside a load.
