@@ -1,5 +1,6 @@
-// A rule followed both ways.
+// A rule followed both ways, and a set of ways taken apart.
 use crate::Network;
+use crate::ways::WaySet;
 use masks::Mask;
 use wall::rule::PairRule;
 use wall::wall::Wall;
@@ -39,4 +40,17 @@ fn a_rule_leads_there_and_back(rt: HostRuntime) {
         [back.next(), back.next(), back.next()],
         [Some(26), None, None]
     );
+}
+
+#[test]
+fn the_smallest_way_comes_off(rt: HostRuntime) {
+    let ways = WaySet::none().with(30).with(47).with(7);
+    assert_eq!(rt;
+        ways.split().map(|(way, rest)| {
+            let mut others = rest.into_iter();
+            (way, [others.next(), others.next(), others.next()])
+        }),
+        Some((7, [Some(30), Some(47), None]))
+    );
+    assert!(rt; WaySet::none().split().is_none());
 }

@@ -1,5 +1,5 @@
 // Sets of ways.
-ghost use Rattle.std.specs.Prelude.{◌≡◌, ℕ, false, ◌&&◌, ◌||◌, ◌==◌, nat_lt};
+ghost use Rattle.std.specs.Prelude.{◌≡◌, ℕ, false, ◌&&◌, ◌||◌, Some, MatchOption, ◌==◌, nat_lt};
 ghost use Rattle.std.specs.Iterator.{at_most};
 ghost use Rattle.masks.specs.Members.{how_many};
 ghost use Rattle.network.specs.Ways.{has_way, SplitOff};
@@ -31,6 +31,22 @@ impl WaySet {
             self
         }
     }
+
+    /// The way of the smallest number, and the set of the others.
+    pub fn split(self) -> Option<(usize, WaySet)>
+        ensures { MatchOption result ((k : ℕ) → has_way self k ≡ false) (λ parts. SplitOff self (Some parts.0) parts.1) }
+    {
+        let way = self.bits.trailing_zeros() as usize;
+        if way >= 48 {
+            return None;
+        }
+        Some((
+            way,
+            WaySet {
+                bits: self.bits ^ (self.bits & (1 << way)),
+            },
+        ))
+    }
 }
 
 /// The ways of a set, the smallest number first.
@@ -60,12 +76,8 @@ impl Iterator for Ways {
     ghost remaining = { λ ways. at_most (how_many (has_way ways.rest) 48) };
 
     fn next(&mut self) -> Option<usize> {
-        let bits = self.rest.bits;
-        let way = bits.trailing_zeros() as usize;
-        if way >= 48 {
-            return None;
-        }
-        self.rest.bits = bits ^ (bits & (1 << way));
+        let (way, rest) = self.rest.split()?;
+        self.rest = rest;
         Some(way)
     }
 }

@@ -1,3 +1,4 @@
 pub mod Pigeons
 pub mod PlanLaws
 pub mod RowOrder
+pub mod WallLaws
