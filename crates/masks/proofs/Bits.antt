@@ -1,5 +1,5 @@
 -- The bits of a figure, one after another from the lowest. Assumes nothing.
-use Rattle.std.proofs.Common.{◌≡◌, ℕ, zero, suc, ◌+◌, ◌-◌, ◌/◌, ◌%◌, ◌^◌, ◌<◌, ◌≤◌, min, max, Bool, true, false, cond, not, ◌&&◌, ◌||◌, eqb, ltb, sym, refl, ap, ◌∙◌, ⊎_elim, pow-suc, arith}
+use Rattle.std.proofs.Common.{◌≡◌, ℕ, zero, suc, ◌+◌, ◌-◌, ◌/◌, ◌%◌, ◌^◌, ◌<◌, ◌≤◌, min, max, Bool, true, false, cond, not, ◌&&◌, ◌||◌, eqb, ltb, sym, refl, ap, ap₂, ◌∙◌, ⊎_elim, pow-suc, arith}
 use lib.Bits.{bit_and, bit_or, bit_xor, and_step, and_shr, or_step, or_shr, xor_add_and, xor_shr}
 use lib.Count.{ones, ones_step, count_trailing_zeros, under}
 use Rattle.std.proofs.lemmas.Nat.{pow_pos, shr-shr}
@@ -132,6 +132,30 @@ lowest_zeros (suc w) m p h =
 pub zeros_bits : (w m : ℕ) → 0 < m → m < 2 ^ w → (bit_of m (count_trailing_zeros w m) ≡ true) × ((k : ℕ) → k < count_trailing_zeros w m → bit_of m k ≡ false)
 unfolding LowestAt
 zeros_bits w m p h = lowest_zeros w m p h
+
+-- one less than a figure has the same bits above its lowest 1, and not that one
+pub bit_of_rest : (m n k : ℕ) → bit_of m n ≡ true → ((j : ℕ) → j < n → bit_of m j ≡ false) → (bit_of m k && bit_of (m - 1) k) ≡ (bit_of m k && not (eqb k n))
+bit_of_rest m zero zero h below =
+    let low = sym (bit_of_zero m) ∙ h in
+    let less = bit_of_zero (m - 1) in
+    grind (arith, nat_tests)
+bit_of_rest m zero (suc k) h below =
+    let low = sym (bit_of_zero m) ∙ h in
+    let odd : m % 2 ≡ 1 = grind (arith, nat_tests) in
+    let half : (m - 1) / 2 ≡ m / 2 = omega arith in
+    let same : bit_of (m - 1) (suc k) ≡ bit_of m (suc k) = bit_of_suc (m - 1) k ∙ ap (λ (x : ℕ). bit_of x k) half ∙ sym (bit_of_suc m k) in
+    ap (λ (b : Bool). bit_of m (suc k) && b) same ∙ grind (arith, nat_tests)
+bit_of_rest m (suc n) zero h below =
+    let none = below 0 (omega arith) in
+    ap (λ (b : Bool). b && bit_of (m - 1) 0) none ∙ sym (ap (λ (b : Bool). b && not (eqb 0 (suc n))) none)
+bit_of_rest m (suc n) (suc k) h below =
+    let none = sym (bit_of_zero m) ∙ below 0 (omega arith) in
+    let even : m % 2 ≡ 0 = grind (arith, nat_tests) in
+    let half : (m - 1) / 2 ≡ m / 2 - 1 = omega arith in
+    let here = bit_of_suc m k in
+    let there : bit_of (m - 1) (suc k) ≡ bit_of (m / 2 - 1) k = bit_of_suc (m - 1) k ∙ ap (λ (x : ℕ). bit_of x k) half in
+    let next : eqb k n ≡ eqb (suc k) (suc n) = grind (arith, nat_tests) in
+    ap₂ (λ (a b : Bool). a && b) here there ∙ bit_of_rest (m / 2) n k (sym (bit_of_suc m n) ∙ h) (λ j l. sym (bit_of_suc m j) ∙ below (suc j) (omega arith)) ∙ ap₂ (λ (a b : Bool). a && not b) (sym here) next
 
 -- a figure of w bits has none from w on
 pub bit_past : (w m k : ℕ) → m < 2 ^ w → w ≤ k → bit_of m k ≡ false

@@ -1,13 +1,13 @@
 -- The laws of sets of options. Assumes nothing.
-use Rattle.std.proofs.Common.{◌≡◌, ℕ, zero, suc, ◌-◌, ◌*◌, ◌%◌, ◌^◌, ◌<◌, ◌≤◌, Bool, true, false, cond, not, ◌&&◌, ◌||◌, eqb, ltb, ◌⊎◌, Decides, sym, zero-mul, refl, ap, ◌∙◌, inl, inr, ⊎_elim, arith}
+use Rattle.std.proofs.Common.{◌≡◌, ℕ, zero, suc, ◌-◌, ◌*◌, ◌%◌, ◌^◌, ◌<◌, ◌≤◌, Bool, true, false, cond, not, ◌&&◌, ◌||◌, eqb, ltb, ◌⊎◌, Some, Decides, sym, zero-mul, refl, ap, ◌∙◌, inl, inr, ⊎_elim, arith}
 use lib.Bits.{bit_and, bit_or, bit_xor}
 use lib.Count.{ones, count_trailing_zeros}
 use Rattle.std.proofs.lemmas.Nat.{one_shl}
 use Rattle.std.proofs.lemmas.Bool.Decides.{nat_tests}
 use Rattle.std.proofs.lemmas.Bool.{cases_eq, cases_lt, cases_Bool, both_ways, and_parts, and_from, and_right, ltb-true, lt-ltb, le-ltb, eq-eqb, eqb-true, not_from_true}
 use Rattle.masks.specs.declared.Mask.{Mask}
-use Rattle.masks.specs.Members.{is_option, bit_of, has, size, SameMembers}
-use Rattle.masks.proofs.Bits.{bit_of_none, bit_of_pow, bit_of_ones, bit_of_and, bit_of_or, bit_of_minus, bits_same, ones_bits, zeros_bits, bit_past}
+use Rattle.masks.specs.Members.{is_option, bit_of, has, size, Least, SplitLeast, SameMembers}
+use Rattle.masks.proofs.Bits.{bit_of_none, bit_of_pow, bit_of_ones, bit_of_and, bit_of_or, bit_of_minus, bit_of_rest, bits_same, ones_bits, zeros_bits, bit_past}
 use Rattle.masks.proofs.Counts.{how_many_same, how_many_less}
 
 -- what is in a set is an option
@@ -51,6 +51,10 @@ less : (p x y : Bool) → (p && (x && not y)) ≡ ((p && x) && not (p && y))
 less true x y = refl
 less false x y = refl
 
+apart : (p x y : Bool) → (p && (x && not y)) ≡ ((p && x) && not y)
+apart true x y = refl
+apart false x y = refl
+
 pub has_both : (a b : Mask) (k : ℕ) → has (record { bits = bit_and a.bits b.bits }) k ≡ (has a k && has b k)
 unfolding has
 has_both a b k = ap (λ (t : Bool). is_option k && t) (bit_of_and a.bits b.bits k) ∙ share (is_option k) _ _
@@ -83,6 +87,30 @@ least_zeros m h ne =
     let n = count_trailing_zeros 16 m.bits in
     let in16 : n < 16 = ⊎_elim (λ (l : n < 16). l) (λ (l : 16 ≤ n). absurd (both_ways (bit_of m.bits n) (bit_past 16 m.bits n h l) z.0)) (cases_lt n 16) in
     (and_from (is_option n) (bit_of m.bits n) (lt-ltb n 16 in16) z.0, λ k l. and_right (is_option k) (bit_of m.bits k) (z.1 k l))
+
+-- a set that has an option has a 1 among its bits
+pub bits_some : (m : Mask) (n : ℕ) → has m n ≡ true → 0 < m.bits
+unfolding has
+bits_some m n h = ⊎_elim (λ (e : m.bits ≡ 0). absurd (both_ways (has m n) (ap (λ (b : ℕ). is_option n && bit_of b n) e ∙ and_right (is_option n) (bit_of 0 n) (bit_of_none n)) h))
+    (λ (e : m.bits ≡ 0 → ⊥). omega arith)
+    (cases_eq m.bits 0)
+
+-- a set without its least option
+pub split_least : (m : Mask) (n : ℕ) → Least (has m) (Some n) → SplitLeast m (Some (n, record { bits = bit_and m.bits (m.bits - 1) }))
+unfolding has
+split_least m n least = (least, members, size_without m rest n members least.0)
+  where
+    rest : Mask
+    rest = record { bits = bit_and m.bits (m.bits - 1) }
+
+    bit : (k : ℕ) → k < 16 → has m k ≡ bit_of m.bits k
+    bit k l = ap (λ (b : Bool). b && bit_of m.bits k) (lt-ltb k 16 l)
+
+    n16 : n < 16
+    n16 = has_option m n least.0
+
+    members : (k : ℕ) → has rest k ≡ (has m k && not (eqb k n))
+    members k = ap (λ (b : Bool). is_option k && b) (bit_of_and m.bits (m.bits - 1) k ∙ bit_of_rest m.bits n k (sym (bit n n16) ∙ least.0) (λ j l. sym (bit j (omega (arith, n16))) ∙ least.1 j l)) ∙ apart (is_option k) (bit_of m.bits k) (eqb k n)
 
 -- a set is known by its options
 pub same_members : SameMembers

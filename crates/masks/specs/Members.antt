@@ -1,5 +1,5 @@
 -- What a mask holds: the set of the options whose bit is 1.
-use Rattle.std.specs.Prelude.{◌≡◌, ℕ, zero, suc, ◌+◌, ◌/◌, ◌%◌, ◌^◌, ◌<◌, Bool, true, false, cond, ◌&&◌, Some, None, Option, ◌==◌, nat_lt}
+use Rattle.std.specs.Prelude.{◌≡◌, ℕ, zero, suc, ◌+◌, ◌/◌, ◌%◌, ◌^◌, ◌<◌, Bool, true, false, cond, not, ◌&&◌, Some, None, Option, ◌==◌, nat_lt}
 use Rattle.masks.specs.declared.Mask.{Mask}
 
 -- whether k is an option at all: the options are numbered from 0 to 15
@@ -27,6 +27,11 @@ size m = how_many (has m) 16
 abbrev pub Least : (ℕ → Bool) → Option ℕ → Type 0
 Least test None = (k : ℕ) → test k ≡ false
 Least test (Some n) = (test n ≡ true) × ((k : ℕ) → k < n → test k ≡ false)
+
+-- the smallest option of a set and the set without it, which is smaller; none exactly of the empty set
+abbrev pub SplitLeast : Mask → Option (ℕ × Mask) → Type 0
+SplitLeast m None = (k : ℕ) → has m k ≡ false
+SplitLeast m (Some split) = Least (has m) (Some split.0) × ((k : ℕ) → has split.1 k ≡ (has m k && not (k == split.0))) × (size split.1 < size m)
 
 -- a figure whose bits that are 1 are the options of a set
 abbrev pub IsFigure : ℕ → Mask → Type 0

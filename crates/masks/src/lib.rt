@@ -2,7 +2,7 @@
 #![tactic(auto)]
 
 ghost use Rattle.std.specs.Prelude.{◌≡◌, ℕ, ◌+◌, ◌^◌, ◌<◌, ◌≤◌, true, false, not, ◌&&◌, ◌||◌, if◌then◌else◌, Decides, ◌==◌, nat_lt};
-ghost use Rattle.masks.specs.Members.{is_option, bit_of, has, size, Least, IsFigure, SameMembers};
+ghost use Rattle.masks.specs.Members.{is_option, bit_of, has, size, Least, SplitLeast, IsFigure, SameMembers};
 
 /// A set of options: bit k is 1 where option k is in the set.
 #[derive(Clone, Copy)]
@@ -125,6 +125,18 @@ impl Mask {
         } else {
             Some(self.bits.trailing_zeros() as u8)
         }
+    }
+
+    /// The option of the smallest number in the set, and the set without it.
+    pub fn split_least(self) -> Option<(u8, Mask)>
+        ensures { SplitLeast self result }
+    {
+        let least = self.least()?;
+        // One less than a figure has its lowest 1 turned to 0, and the same bits above it.
+        let rest = Mask {
+            bits: self.bits & (self.bits - 1),
+        };
+        Some((least, rest))
     }
 
     /// How many options are in the set.

@@ -74,6 +74,25 @@ fn least_and_count(rt: HostRuntime) {
     );
 }
 
+/// A set split in its least option and the rest, which is written as a figure.
+fn split(set: Mask) -> Option<(u8, u16)> {
+    let (least, rest) = set.split_least()?;
+    Some((least, rest.into()))
+}
+
+#[test]
+fn the_least_split_off(rt: HostRuntime) {
+    assert_eq!(rt;
+        [
+            split(Mask::none()),
+            split(Mask::only(15)),
+            split(Mask::from(32776)),
+            split(Mask::first(16)),
+        ],
+        [None, Some((15, 0)), Some((3, 32768)), Some((0, 65534))]
+    );
+}
+
 #[test]
 fn the_theorem_holds(rt: HostRuntime) {
     assert!(rt; Mask::sets_by_members());

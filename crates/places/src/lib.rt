@@ -73,8 +73,8 @@ fn group_of<F: Fn(u8) -> u8>(options: Mask, place: F) -> ArrayVec<RankedOption, 
     let mut group = ArrayVec::new();
     // An iterator over sets of options would serve this loop alone.
     let mut left = options;
-    while let Some(option) = left.least() {
-        left = left.without(option);
+    while let Some((option, rest)) = left.split_least() {
+        left = rest;
         group.push(RankedOption {
             place: place(option),
             option,
