@@ -5,7 +5,7 @@ ghost use Rattle.masks.specs.Members.{how_many};
 ghost use Rattle.network.specs.Ways.{has_way, SplitOff};
 
 /// A set of ways: bit k is 1 where way k is in the set.
-// No `Mask` of another size: a set over any word would speak of its width in every contract, for two shared functions, `none` and `with`.
+// No `Mask` of another size: a set over any word would speak of its width in every contract, for three shared functions: `none`, `with`, and the one that splits off the least.
 #[derive(Clone, Copy)]
 pub struct WaySet {
     bits: u64,

@@ -1,5 +1,5 @@
 -- The first of what a loop has seen of a group, where "goes before" is an order.
-use Rattle.std.proofs.Common.{eqb, Decides, ◌≡◌, ℕ, ◌+◌, ◌<◌, ◌≤◌, Bool, true, false, List, [], ◌∷◌, length, get_or, Some, None, Option, sym, ◌∙◌, ⊎_elim, refl, add-one, arith}
+use Rattle.std.proofs.Common.{eqb, Decides, ◌≡◌, ℕ, ◌+◌, ◌<◌, ◌≤◌, Bool, true, false, List, [], ◌∷◌, length, get_or, Some, None, Option, ⊎_elim, refl, add-one, arith}
 use Rattle.std.specs.Option.{option_eq}
 use Rattle.std.proofs.lemmas.List.{get_or_read}
 use Rattle.std.proofs.lemmas.Bool.{cases_lt, cases_order, both_ways, cases_eq, eq-eqb, eqb-true}
@@ -69,14 +69,18 @@ pub at_head : {X : Type 0} (group rest : List X) (head d : X) → group ≡ head
 at_head group rest head d e = rw e refl
 
 -- of two entries the second is the first of the group exactly when it goes before the other
-pub second_first : {X : Type 0} (before : X → X → Bool) (x y : X) (r : Option ℕ) (t : Bool) → FirstOf before (y ∷ (x ∷ [])) r → t ≡ option_eq eqb r (Some 1) → Decides t (before x y ≡ true)
-second_first before x y None t h e = absurd (omega arith)
-second_first before x y (Some i) t h e = (to, from)
+pub second_first : {X : Type 0} (before : X → X → Bool) (x y : X) (i : ℕ) → FirstAt before (y ∷ (x ∷ [])) i → Decides (eqb i 1) (before x y ≡ true)
+second_first before x y i h = (to, from)
   where
-    to : t ≡ true → before x y ≡ true
-    to p = let q : i ≡ 1 = eqb-true i 1 (sym e ∙ p) in let a = h.0.earliest 0 y (omega arith) in rw q at a
+    to : eqb i 1 ≡ true → before x y ≡ true
+    to e = let q : i ≡ 1 = eqb-true i 1 e in let a = h.earliest 0 y (omega arith) in rw q at a
 
-    from : before x y ≡ true → t ≡ true
+    from : before x y ≡ true → eqb i 1 ≡ true
     from b =
-        let w = h.0.within in
-        ⊎_elim (λ (q : i ≡ 0). let a = h.0.least 1 y (omega arith) in absurd (both_ways (before x y) (rw q at a) b)) (λ (q : i ≡ 0 → ⊥). e ∙ eq-eqb i 1 (omega arith)) (cases_eq i 0)
+        let w = h.within in
+        ⊎_elim (λ (q : i ≡ 0). let a = h.least 1 y (omega arith) in absurd (both_ways (before x y) (rw q at a) b)) (λ (q : i ≡ 0 → ⊥). eq-eqb i 1 (omega arith)) (cases_eq i 0)
+
+-- and so for what `first_of` answers
+pub second_answered : {X : Type 0} (before : X → X → Bool) (x y : X) (r : Option ℕ) (t : Bool) → FirstOf before (y ∷ (x ∷ [])) r → t ≡ option_eq eqb r (Some 1) → Decides t (before x y ≡ true)
+second_answered before x y None t h e = absurd (omega arith)
+second_answered before x y (Some i) t h e = rw e (second_first before x y i h.0)

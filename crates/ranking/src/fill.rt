@@ -12,6 +12,7 @@ pub fn options_of(list: &[u32]) -> Result<Mask, RankingRefusal>
     ensures taken { IfOk result (λ options. (is_list list.now ≡ true) × ((o : ℕ) → has options o ≡ stands o list.now)) }
     ensures refused { IfErr result (λ refusal. (is_list list.now ≡ false) × (refusal ≡ RankingRefusal.OutOfRange)) }
 {
+    // At once, since what is longer has a number that is none or stands twice.
     if list.len() > 16 {
         return Err(RankingRefusal::OutOfRange);
     }

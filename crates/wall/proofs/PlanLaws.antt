@@ -10,7 +10,7 @@ use Rattle.ranking.specs.Orders.{IsRanking, RowBefore}
 use Rattle.wall.specs.Plans.{Task, lines_of, Keeps, KeepsBefore, Best, Place}
 use Rattle.wall.specs.Theorems.{Proper, OneBest, OnePlace, OwnPlace}
 use Rattle.wall.proofs.RowOrder.{row_never, row_through, row_one}
-use Rattle.wall.proofs.Pigeons.{no_longer}
+use Rattle.wall.proofs.Pigeons.{rows_no_longer}
 
 -- a rule-keeping row is a row of the wall
 pub keeps_row : (t : Task) → Proper t → (α : List ℕ) → Keeps t α → is_row (lines_of t) α ≡ true
@@ -34,7 +34,7 @@ one_best t p picks α β a b = one_best_of t p (λ γ. Keeps t γ × (picks γ �
 -- the rows before a row, counted twice
 fewer : (t : Task) (α : List ℕ) (p q : ℕ) → Place t α p → Place t α q → p ≤ q
 fewer t α p q a b =
-    let l = no_longer a.ahead b.ahead a.once (λ β h. b.all β (All-contains (KeepsBefore t α) a.ahead β a.keep h)) in
+    let l = rows_no_longer a.ahead b.ahead a.once (λ β h. b.all β (All-contains (KeepsBefore t α) a.ahead β a.keep h)) in
     let e = a.count in
     let f = b.count in
     omega arith
@@ -45,7 +45,7 @@ one_place t proper α p q a b = let l = fewer t α p q a b in let m = fewer t α
 -- what goes before has the smaller place
 pub place_less : (t : Task) → Proper t → (α β : List ℕ) (p q : ℕ) → Keeps t α → Keeps t β → RowBefore t.before α β → Place t α p → Place t β q → p < q
 place_less t proper α β p q ka kb r a b =
-    let l = no_longer (a.ahead ++ α ∷ []) b.ahead (all_pairs_push (λ x y. x ≢ y) a.ahead α a.once apart) (λ γ h. ⊎_elim (before γ) (λ (e : α ≡ γ). rw (← e) (b.all α (ka, r))) (Contains-push_cases a.ahead α γ h)) in
+    let l = rows_no_longer (a.ahead ++ α ∷ []) b.ahead (all_pairs_push (λ x y. x ≢ y) a.ahead α a.once apart) (λ γ h. ⊎_elim (before γ) (λ (e : α ≡ γ). rw (← e) (b.all α (ka, r))) (Contains-push_cases a.ahead α γ h)) in
     let n = length_push a.ahead α in
     let e = a.count in
     let f = b.count in

@@ -1,6 +1,6 @@
 use Rattle.std.proofs.Common.{◌<◌, arith}
 use Rattle.std.proofs.lemmas.List.{length-set}
-use Rattle.wallplan.proofs.Plans.{best_more, none_left}
+use Rattle.wallplan.proofs.Plans.{best_more, none_best}
 use Rattle.wallplan.proofs.best_row.Goals as goal
 
 pub returns-in_err-row : goal.returns-in_err-row
@@ -8,7 +8,7 @@ returns-in_err-row g c =
     let before = g.R.Ranking.before c.args.ranking.now in
     let so_far = c.loop-line.invariant in
     let l : c.loop-line.line < 3 = omega arith in
-    let none = none_left before c.args.counts.now c.loop-line.row c.loop-line.line l so_far.whole so_far.best c.first.result c.first.ensures c.in_err-row.ensures in
+    let none = none_best before c.args.counts.now c.loop-line.row c.loop-line.line l so_far.whole so_far.best c.first.result c.first.ensures c.in_err-row.ensures in
     rw c.from_residual.ensures (c.loop-line.line, l, none)
 
 pub loop-line-preserved : goal.loop-line-preserved
